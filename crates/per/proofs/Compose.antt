@@ -1,0 +1,104 @@
+-- How readings compose: a law for each combinator, with which the proof of a record's reader is the record's codec once more. Assumes nothing.
+use Prim.Native.Nat.{ℕ, zero, suc}
+use mathlib.Core.Path.{_≡_, refl, sym, ap, _∙_}
+use mathlib.Core.Bool.{Bool, true, false, cond}
+use mathlib.Core.List.{List}
+use native.Mathlib.Omega.{arith}
+use lib.Dec.{eqb, eqb·suc-zero}
+use borrow.Author.Tests.{eq-eqb, ne-eqb, eqb-true, eqb-false}
+use Rattle.per.specs.declared.cursor.Cursor.{Cursor}
+use Rattle.per.specs.declared.cursor.Num.{Num}
+use Rattle.per.specs.Codec.{Codec, place, refuse}
+use Rattle.per.specs.Formats.{dep, via, only, absent, when, Null, ext, extension, pair, Alt, altCodec, choice, choice-left, index}
+use Rattle.per.specs.Pdu.{window}
+use Rattle.per.specs.Reading.{Reads, settled}
+
+-- one after the other
+pub then : {A B : Type 0} {c : Codec A} {d : Codec B} {s : List ℕ} {j n m : Cursor} {a : A} {b : B}
+    → Reads c s j a n → Reads d s n b m → Reads (pair c d) s j (a, b) m
+unfolding dep
+then p q = record { value-is = rw (p .value-is, ← p .next-is, q .value-is); next-is = rw (← p .next-is) (q .next-is) }
+
+-- the same bits for another type
+pub like : {A B : Type 0} {c : Codec A} (to : A → B) (from : B → A) (ok : B → ℕ)
+    (left : (a : A) → c .chk a ≡ 0 → c .norm a ≡ a → (ok (to a) ≡ 0) × (from (to a) ≡ a))
+    {s : List ℕ} {j n : Cursor} {a : A} → Reads c s j a n → Reads (via c to from ok left) s j (to a) n
+unfolding via
+like to from ok left p = record { value-is = ap to (p .value-is); next-is = p .next-is }
+
+-- one, and then what its value picks
+pub by : {A B : Type 0} {c : Codec A} (k : A → Codec B) {s : List ℕ} {j n m : Cursor} {a : A} {b : B}
+    → Reads c s j a n → Reads (k a) s n b m → Reads (dep c k) s j (a, b) m
+unfolding dep
+by k p q = record { value-is = rw (← p .value-is, ← p .next-is, q .value-is); next-is = rw (← p .value-is, ← p .next-is) (q .next-is) }
+
+-- an optional part
+pub when-there : {A : Type 0} {c : Codec A} (z : A) (b : Bool) {s : List ℕ} {j n : Cursor} {a : A} → b ≡ true → Reads c s j a n → Reads (when b z c) s j a n
+unfolding when
+when-there z b e p = rw e p
+
+pub when-absent : {A : Type 0} (c : Codec A) {z : A} (b : Bool) {s : List ℕ} {j : Cursor} → b ≡ false → Reads (when b z c) s j z j
+unfolding when absent
+when-absent c b e = rw e (record { value-is = refl; next-is = refl })
+
+-- an extension bit first
+pub after-ext : {A : Type 0} {c : Codec A} {s : List ℕ} {j n m : Cursor} {a : A} → Reads extension s j (record {}) n → Reads c s n a m → Reads (ext c) s j a m
+after-ext p q = like (λ x. x .1) (λ x. (record {}, x)) (λ x. 0) (λ x g e. (refl, refl)) (then p q)
+
+-- an alternative, and a choice of it
+pub in-alt : {E P : Type 0} (tag : E → ℕ) (i : ℕ) {c : Codec P} (make : P → E) (get : E → P) (t : (p : P) → tag (make p) ≡ i) (g : (p : P) → get (make p) ≡ p)
+    {s : List ℕ} {j n : Cursor} {p : P} → Reads c s j p n → Reads (altCodec tag i c make get t g) s j (make p) n
+unfolding altCodec via
+in-alt tag i make get t g r = record { value-is = ap make (r .value-is); next-is = r .next-is }
+
+pub in-choice : {E : Type 0} (top : ℕ) (tag : E → ℕ) (alts : (i : ℕ) → Alt tag i) (k : ℕ) {s : List ℕ} {j m q : Cursor} {i : ℕ} {e : E}
+    → i ≡ k → Reads (index top) s j i m → Reads (alts k .codec) s m e q → Reads (choice top tag alts) s j e q
+unfolding choice
+in-choice top tag alts k h r x =
+    like (λ p. p .1) (λ a. (tag a, a)) (λ a. 0) (λ p g z. (refl, choice-left top tag alts p g))
+    (by (λ u. alts u .codec) r (rw h x))
+
+-- no bits
+pub nothing : {A : Type 0} {z : A} {s : List ℕ} {j : Cursor} → Reads (absent z) s j z j
+unfolding absent
+nothing = record { value-is = refl; next-is = refl }
+
+-- a further judgement
+module _ {A : Type 0} {c : Codec A} (bad : A → ℕ) {s : List ℕ} {j n : Cursor} {a : A} (r : Reads c s j a n) where
+  pub only-kept : (n .refusal ≡ 0 → ⊥) → Reads (only c bad) s j a n
+  unfolding only
+  only-kept h =
+      let e = ne-eqb (c .run (window s) j .next .refusal) 0 (λ z. h (ap (λ (i : Cursor). i .refusal) (r .next-is) ∙ z)) in
+      record { value-is = rw e (r .value-is); next-is = rw e (r .next-is) }
+
+  pub only-bad : (k : ℕ) {z : A} → z ≡ c .none → n .refusal ≡ 0 → bad a ≡ suc k → Reads (only c bad) s j z (refuse (j .at) (suc k))
+  unfolding only
+  only-bad k q z h =
+      let e = eq-eqb (c .run (window s) j .next .refusal) 0 (ap (λ (i : Cursor). i .refusal) (sym (r .next-is)) ∙ z) in
+      let b : bad (c .run (window s) j .value) ≡ suc k = ap bad (sym (r .value-is)) ∙ h in
+      record { value-is = rw (e, b) q; next-is = rw (e, b) }
+
+  pub only-good : n .refusal ≡ 0 → bad a ≡ 0 → Reads (only c bad) s j a n
+  unfolding only
+  only-good z h =
+      let e = eq-eqb (c .run (window s) j .next .refusal) 0 (ap (λ (i : Cursor). i .refusal) (sym (r .next-is)) ∙ z) in
+      let b : bad (c .run (window s) j .value) ≡ 0 = ap bad (sym (r .value-is)) ∙ h in
+      let p : n ≡ place (n .at) = λ i. record { at = n .at; refusal = z i } in
+      record { value-is = rw (e, b) (r .value-is); next-is = rw (e, b) (p ∙ ap (λ (i : Cursor). place (i .at)) (r .next-is)) }
+
+-- the same with the judgement as a number
+pub only-settled : {c : Codec ℕ} (bad : ℕ → ℕ) {s : List ℕ} {j : Cursor} (t : Num) (m : ℕ) → Reads c s j (t .value) (t .next) → c .none ≡ 0 → m ≡ bad (t .value)
+    → Reads (only c bad) s j (settled j t m .value) (settled j t m .next)
+unfolding settled
+only-settled {c} bad {s} {j} t m r z q = go (eqb (t .next .refusal) 0) refl m refl
+  where
+    go : (b : Bool) → eqb (t .next .refusal) 0 ≡ b → (k : ℕ) → m ≡ k
+        → Reads (only c bad) s j (cond b (cond (eqb k 0) t (record { value = 0; next = refuse (j .at) k })) t .value)
+        (cond b (cond (eqb k 0) t (record { value = 0; next = refuse (j .at) k })) t .next)
+    go true f zero h = only-good bad r (eqb-true (t .next .refusal) 0 f) (sym q ∙ h)
+    go true f (suc k) h = rw (eqb·suc-zero k) (only-bad bad r k (sym z) (eqb-true (t .next .refusal) 0 f) (sym q ∙ h))
+    go false f k h = only-kept bad r (eqb-false (t .next .refusal) 0 f)
+
+-- ---- how tight the statement is: one value and one cursor
+pub reads-one : {A : Type 0} {c : Codec A} {s : List ℕ} {j n m : Cursor} {a b : A} → Reads c s j a n → Reads c s j b m → (a ≡ b) × (n ≡ m)
+reads-one p q = (p .value-is ∙ sym (q .value-is), p .next-is ∙ sym (q .next-is))

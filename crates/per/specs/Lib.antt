@@ -1,0 +1,9 @@
+pub mod Bits
+pub mod Codec
+pub mod Field
+pub mod Shapes
+pub mod Formats
+pub mod Pdu
+pub mod Reading
+pub mod Writing
+pub mod laws

@@ -1,0 +1,44 @@
+-- What the code's writings say. A pen stands at a bit place over 128 octets and keeps its first refusal; from then on nothing is written.
+use Prim.Native.Nat.{ℕ, zero, suc, _+_, _-_, _*_, _/_, _%_, min, max}
+use mathlib.Core.Path.{_≡_}
+use mathlib.Core.Bool.{Bool, cond}
+use mathlib.Core.List.{List, [], _∷_, _++_}
+use lib.ListN.{length, getD, set, drop}
+use lib.Dec.{eqb, leb, ltb}
+use Rattle.per.specs.declared.pen.Pen.{Pen}
+use Rattle.per.specs.Bits.{ofBit}
+use Rattle.per.specs.Codec.{Codec}
+
+-- an octet with its bit of weight 2 ^ k made b
+unfoldable pub octetWith : ℕ → ℕ → ℕ → ℕ
+octetWith o zero b = o / 2 * 2 + b
+octetWith o (suc k) b = octetWith (o / 2) k b * 2 + o % 2
+
+-- the octets with b at the bit place i; there is no place past the 1,024 bits of 128 octets
+unfoldable pub setBit : List ℕ → ℕ → Bool → List ℕ
+setBit s i b = cond (ltb i 1024) (set s (i / 8) (octetWith (getD s (i / 8) 0) (7 - i % 8) (ofBit b))) s
+
+-- the octets with bits one after another from the place at
+unfoldable pub putBits : List ℕ → ℕ → List Bool → List ℕ
+putBits s at [] = s
+putBits s at (b ∷ bs) = putBits (setBit s at b) (suc at) bs
+
+-- the place after n bits. 1,025 says that a PDU is over 128 octets: a pen there moves no more
+abbrev pub onward : ℕ → ℕ → ℕ
+onward at n = max at (min (at + n) 1025)
+
+-- the pen and the octets after a write
+pub record Ink : Type 0 where
+  pub pen : Pen
+  pub octets : List ℕ
+
+-- a's bits are written, up to the field that is refused, and the pen has the refusal
+unfoldable pub ink : {A : Type 0} → Codec A → List ℕ → Pen → A → Ink
+ink c s p a =
+    cond (eqb (p .refusal) 0)
+    (record { pen = record { at = onward (p .at) (length (c .enc a)); refusal = c .chk a }; octets = putBits s (p .at) (c .enc a) })
+    (record { pen = p; octets = s })
+
+pub record Writes {A : Type 0} (c : Codec A) (s : List ℕ) (p : Pen) (a : A) (next : Pen) (octets : List ℕ) : Type 0 where
+  pub pen-is : next ≡ ink c s p a .pen
+  pub octets-is : octets ≡ ink c s p a .octets
