@@ -4,3 +4,6 @@ pub mod Leaf
 pub mod Ends
 pub mod Compose
 pub mod Signs
+pub mod Puts
+pub mod Inks
+pub mod Checks

@@ -1,13 +1,15 @@
 -- What the code's writings say. A pen stands at a bit place over 128 octets and keeps its first refusal; from then on nothing is written.
-use Prim.Native.Nat.{ℕ, zero, suc, _+_, _-_, _*_, _/_, _%_, min, max}
+use Prim.Native.Nat.{ℕ, zero, suc, _+_, _-_, _*_, _/_, _%_, _≤_, _<_, min, max}
 use mathlib.Core.Path.{_≡_}
 use mathlib.Core.Bool.{Bool, cond}
 use mathlib.Core.List.{List, [], _∷_, _++_}
-use lib.ListN.{length, getD, set, drop}
-use lib.Dec.{eqb, leb, ltb}
+use lib.ListN.{length, getD, set}
+use lib.Dec.{eqb, ltb}
+use lib.IntN.{ℤ}
 use Rattle.per.specs.declared.pen.Pen.{Pen}
-use Rattle.per.specs.Bits.{ofBit}
+use Rattle.per.specs.Bits.{ofBit, toBits}
 use Rattle.per.specs.Codec.{Codec}
+use Rattle.per.specs.Field.{raised, raisedChk}
 
 -- an octet with its bit of weight 2 ^ k made b
 unfoldable pub octetWith : ℕ → ℕ → ℕ → ℕ
@@ -26,6 +28,16 @@ putBits s at (b ∷ bs) = putBits (setBit s at b) (suc at) bs
 -- the place after n bits. 1,025 says that a PDU is over 128 octets: a pen there moves no more
 abbrev pub onward : ℕ → ℕ → ℕ
 onward at n = max at (min (at + n) 1025)
+
+-- w bits of v were written from the pen's place on
+pub record Inked (s : List ℕ) (p : Pen) (w v : ℕ) (next : Pen) (octets : List ℕ) : Type 0 where
+  pub pen-is : next ≡ record { at = onward (p .at) w; refusal = 0 }
+  pub octets-is : octets ≡ putBits s (p .at) (toBits w v)
+
+-- n is what is sent of the number z of -k..hi, or is above what can be
+pub record Raised (k hi : ℕ) (z : ℤ) (n : ℕ) : Type 0 where
+  pub within : n ≤ hi + k → (raisedChk k hi z ≡ 0) × (n ≡ raised k z)
+  pub beyond : hi + k < n → raisedChk k hi z ≡ 5
 
 -- the pen and the octets after a write
 pub record Ink : Type 0 where

@@ -67,7 +67,7 @@ fn count_bad(v: u32) -> u8
     if v <= 16 { 0 } else { 12 }
 }
 
-fn mask_bad(v: u32, carried: u32, need: bool) -> u8
+pub(crate) fn mask_bad(v: u32, carried: u32, need: bool) -> u8
     ensures { λ r. ⌜ r ≡ maskBad carried need v ⌝ }
 {
     if v & carried != v {
