@@ -7,3 +7,6 @@ pub mod Signs
 pub mod Puts
 pub mod Inks
 pub mod Checks
+pub mod Within
+pub mod RoundTrip
+pub mod Sheets

@@ -4,14 +4,34 @@ use crate::cursor::{mask_bad, Signed};
 
 ghost use mathlib.Core.Path.{_≡_};
 ghost use Prim.Native.Nat.{_≤_};
+ghost use mathlib.Core.List.{_++_};
+ghost use lib.ListN.{length, take, drop};
 ghost use Rattle.per.specs.Bits.{ofBit};
 ghost use Rattle.per.specs.Formats.{run, num, flag, extension, signed, mask, index, count, when};
-ghost use Rattle.per.specs.Writing.{onward, Inked, Raised, Writes};
+ghost use Rattle.per.specs.Writing.{onward, Delivers, Inked, Raised, Writes};
 
 // Where writing stands, and the first refusal it met (0: none).
 pub struct Pen {
     pub at: usize,
     pub refusal: u8,
+}
+
+// What writing a PDU gives: how many octets were written, or the number of a refusal.
+pub enum Written {
+    Octets(usize),
+    Refused(u8),
+}
+
+// The first n octets of a sheet, put into an output.
+fn copy(sheet: &[u8], n: usize, out: &mut [u8])
+    requires { ⌜ (n ≤ length (now sheet)) × (n ≤ length (now out)) ⌝ }
+    ensures { λ r. ⌜ now (out .exit) ≡ take n (now (sheet .entry)) ++ drop n (now (out .entry)) ⌝ }
+{
+    let mut i: usize = 0;
+    while i < n {
+        out[i] = sheet[i];
+        i = i + 1;
+    }
 }
 
 // The place after w bits; past 128 octets a pen moves no more.
@@ -187,5 +207,25 @@ impl Pen {
             return Pen { at, refusal: 5 };
         }
         self.ink(out, width_of(most), sent)
+    }
+
+    // What stands on the sheet, put into an output: only where there is no refusal, and 6 where it is too short.
+    pub fn deliver(self, sheet: &[u8], out: &mut [u8]) -> Written
+        ensures { λ r. ⌜ Delivers self (now (sheet .entry)) (now (out .entry)) r (now (out .exit)) ⌝ }
+    {
+        let at = self.at;
+        let refusal = self.refusal;
+        let n = at / 8 + (at % 8 + 7) / 8;
+        if refusal != 0 {
+            return Written::Refused(refusal);
+        }
+        if sheet.len() < n {
+            return Written::Refused(6);
+        }
+        if out.len() < n {
+            return Written::Refused(6);
+        }
+        copy(sheet, n, out);
+        Written::Octets(n)
     }
 }
