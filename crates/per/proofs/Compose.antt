@@ -11,7 +11,8 @@ use Rattle.per.specs.declared.cursor.Num.{Num}
 use Rattle.per.specs.Codec.{Codec, place, refuse}
 use Rattle.per.specs.Formats.{dep, via, only, absent, when, Null, ext, extension, pair, Alt, altCodec, choice, choice-left, index}
 use Rattle.per.specs.Pdu.{window}
-use Rattle.per.specs.Reading.{Reads, settled}
+use Rattle.per.specs.Reading.{Reads}
+use Rattle.per.specs.Inner.{settled}
 
 -- one after the other
 pub then : {A B : Type 0} {c : Codec A} {d : Codec B} {s : List ℕ} {j n m : Cursor} {a : A} {b : B}

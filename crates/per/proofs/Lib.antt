@@ -2,11 +2,7 @@ pub mod Octets
 pub mod Runs
 pub mod Leaf
 pub mod Ends
-pub mod Compose
 pub mod Signs
-pub mod Puts
-pub mod Inks
-pub mod Checks
+pub mod Compose
 pub mod Within
 pub mod RoundTrip
-pub mod Sheets

@@ -5,5 +5,5 @@ pub mod Shapes
 pub mod Formats
 pub mod Pdu
 pub mod Reading
-pub mod Writing
+pub mod Inner
 pub mod laws

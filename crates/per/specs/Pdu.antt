@@ -1,12 +1,10 @@
 -- The octet level: a PDU's bits, filled to an octet with zeros; and what reading and writing a whole PDU gives.
 use Prim.Native.Nat.{ℕ, zero, suc, _+_, _-_, _/_, _%_}
-use mathlib.Core.Bool.{Bool, true, false, cond}
+use mathlib.Core.Bool.{Bool, true, false}
 use mathlib.Core.List.{List, [], _∷_, _++_}
 use lib.ListN.{length, take, drop, replicate}
 use lib.Dec.{eqb, leb}
 use Rattle.per.specs.declared.cursor.Cursor.{Cursor}
-use Rattle.per.specs.declared.pen.Written.{Written}
-use Rattle.per.specs.declared.pen.Written.the-variants.{Octets, Refused}
 use Rattle.per.specs.Bits.{numAt, bitsOf}
 use Rattle.per.specs.Codec.{Codec, Out, first, unless, refuse}
 
@@ -55,26 +53,6 @@ unfoldable pub readPdu : {A : Type 0} → Codec A → List ℕ → Answer A
 readPdu c s =
     let r = c .run (window s) (start s) in
     answer (finish (window s) (r .next) .refusal) (r .value)
-
--- a write's answer, and the output after it
-pub record Delivered : Type 0 where
-  pub answer : Written
-  pub octets : List ℕ
-
--- n octets written into the output; or the refusal n, and the output as it was
-abbrev pub sent : List ℕ → List ℕ → Delivered
-sent pdu o = record { answer = Octets (length pdu); octets = pdu ++ drop (length pdu) o }
-
-abbrev pub unsent : ℕ → List ℕ → Delivered
-unsent n o = record { answer = Refused n; octets = o }
-
-abbrev pub delivered : ℕ → List ℕ → List ℕ → Delivered
-delivered zero pdu o = sent pdu o
-delivered (suc n) pdu o = unsent (suc n) o
-
--- "Writing: 5, 10, 12, 15 in field order, then 6. A good write leaves octets past its end"
-unfoldable pub writePdu : {A : Type 0} → Codec A → A → List ℕ → Delivered
-writePdu c a o = delivered (first (c .chk a) (unless (leb (length (encode c a)) (length o)) 6)) (encode c a) o
 
 -- the form of what stands in a PDU's octets
 unfoldable pub formPdu : {A : Type 0} → Codec A → List ℕ → ℕ

@@ -1,6 +1,8 @@
 // Reading: a cursor by value that keeps its first refusal. A read on a cursor that holds one gives the empty value and the same cursor.
-use crate::bits::{bits_at, left, room, width_of};
-
+use crate::bits::bits_at;
+use crate::bits::left;
+use crate::bits::room;
+use crate::bits::width_of;
 ghost use mathlib.Core.Path.{_≡_};
 ghost use mathlib.Core.Bool.{not};
 ghost use Prim.Native.Nat.{_+_, _-_};
@@ -8,7 +10,8 @@ ghost use lib.Dec.{eqb, leb};
 ghost use Rattle.per.specs.Codec.{unless};
 ghost use Rattle.per.specs.Formats.{run, num, flag, extension, signed, mask, maskBad, index, count, when};
 ghost use Rattle.per.specs.Pdu.{window, start, ending, finish};
-ghost use Rattle.per.specs.Reading.{Reads, settled};
+ghost use Rattle.per.specs.Reading.{Reads};
+ghost use Rattle.per.specs.Inner.{settled};
 
 // Where reading stands, and the first refusal it met (0: none).
 pub struct Cursor {
@@ -67,7 +70,7 @@ fn count_bad(v: u32) -> u8
     if v <= 16 { 0 } else { 12 }
 }
 
-pub(crate) fn mask_bad(v: u32, carried: u32, need: bool) -> u8
+pub fn mask_bad(v: u32, carried: u32, need: bool) -> u8
     ensures { λ r. ⌜ r ≡ maskBad carried need v ⌝ }
 {
     if v & carried != v {

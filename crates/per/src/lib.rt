@@ -1,4 +1,3 @@
-// Unaligned PER (X.691): a cursor that reads runs of bits and a pen that writes them. Knows nothing of ADS.
+// Unaligned PER (X.691): the formats of messages as codecs, and a cursor that reads runs of bits. Knows nothing of ADS.
 pub mod bits;
 pub mod cursor;
-pub mod pen;

@@ -4,108 +4,76 @@ use Rattle.per.proofs.Runs.{part, pow-up, num-none}
 use borrow.Author.Needs.{needs}
 use Rattle.per.proofs.bits.bits_at.Statement.{statement}
 use Rattle.per.proofs.bits.bits_at.Tie as tie
-use Rattle.per.proofs.bits.bits_at.Reads as reads
-use Rattle.per.proofs.bits.bits_at.Lts as lts
-use Rattle.per.proofs.bits.five.Reads as five-reads
-use Rattle.per.proofs.bits.octet.Reads as octet-reads
-use Rattle.per.proofs.bits.pair.Reads as pair-reads
-use Rattle.per.proofs.bits.pow2.Reads as pow2-reads
-use Rattle.per.proofs.bits.quad.Reads as quad-reads
-use Rattle.per.proofs.bits.triple.Reads as triple-reads
 
--- src/bits.rt:96:9
 returns : tie.Need-returns
 returns c = num-none _ _ _ (omega arith)
 
--- src/bits.rt:99:13
 add-t : tie.Need-add-t
 add-t c = search needs
 
--- src/bits.rt:100:9
 pow2-requires : tie.Need-pow2-requires
 pow2-requires c κs = search needs
 
--- src/bits.rt:102:17
 octet-requires : tie.Need-octet-requires
 octet-requires c κs = seat _ _ _ 8 (c .before .before .before .before .pre .0) (omega arith) (omega arith) (omega arith)
 
--- src/bits.rt:102:17
 shr-result : tie.Need-shr-result
 shr-result c = search needs
 
--- src/bits.rt:102:16
 rem-result : tie.Need-rem-result
 rem-result c = pow-up _ _ (c .before .before .pow2 .ensures)
 
--- src/bits.rt:102:9
 returns-2 : tie.Need-returns-2
 returns-2 c = part _ _ _ 8 _ _ (c .octet .ensures .0) (c .before .before .pow2 .ensures) (omega arith)
 
--- src/bits.rt:105:17
 pair-requires : tie.Need-pair-requires
 pair-requires c κs = seat _ _ _ 16 (c .before .before .before .before .before .pre .0) (omega arith) (omega arith) (omega arith)
 
--- src/bits.rt:105:17
 shr-result-2 : tie.Need-shr-result-2
 shr-result-2 c = search needs
 
--- src/bits.rt:105:16
 rem-result-2 : tie.Need-rem-result-2
 rem-result-2 c = pow-up _ _ (c .before .before .before .pow2 .ensures)
 
--- src/bits.rt:105:9
 returns-3 : tie.Need-returns-3
 returns-3 c = part _ _ _ 16 _ _ (c .pair .ensures .0) (c .before .before .before .pow2 .ensures) (omega arith)
 
--- src/bits.rt:108:17
 triple-requires : tie.Need-triple-requires
 triple-requires c κs = seat _ _ _ 24 (c .before .before .before .before .before .before .pre .0) (omega arith) (omega arith) (omega arith)
 
--- src/bits.rt:108:17
 shr-result-3 : tie.Need-shr-result-3
 shr-result-3 c = search needs
 
--- src/bits.rt:108:16
 rem-result-3 : tie.Need-rem-result-3
 rem-result-3 c = pow-up _ _ (c .before .before .before .before .pow2 .ensures)
 
--- src/bits.rt:108:9
 returns-4 : tie.Need-returns-4
 returns-4 c = part _ _ _ 24 _ _ (c .triple .ensures .0) (c .before .before .before .before .pow2 .ensures) (omega arith)
 
--- src/bits.rt:111:17
 quad-requires : tie.Need-quad-requires
 quad-requires c κs = seat _ _ _ 32 (c .before .before .before .before .before .before .before .pre .0) (omega arith) (omega arith) (omega arith)
 
--- src/bits.rt:111:17
 shr-result-4 : tie.Need-shr-result-4
 shr-result-4 c = search needs
 
--- src/bits.rt:111:16
 rem-result-4 : tie.Need-rem-result-4
 rem-result-4 c = pow-up _ _ (c .before .before .before .before .before .pow2 .ensures)
 
--- src/bits.rt:111:9
 returns-5 : tie.Need-returns-5
 returns-5 c = part _ _ _ 32 _ _ (c .quad .ensures .0) (c .before .before .before .before .before .pow2 .ensures) (omega arith)
 
--- src/bits.rt:113:6
 five-requires : tie.Need-five-requires
 five-requires c κs = seat _ _ _ 40 (c .before .before .before .before .before .before .before .pre .0) (omega arith) (omega arith) (omega arith)
 
--- src/bits.rt:113:21
 sub-result : tie.Need-sub-result
 sub-result c = search needs
 
--- src/bits.rt:113:6
 shr-result-5 : tie.Need-shr-result-5
 shr-result-5 c = search needs
 
--- src/bits.rt:113:5
 rem-result-5 : tie.Need-rem-result-5
 rem-result-5 c = pow-up _ _ (c .before .before .before .before .before .pow2 .ensures)
 
--- src/bits.rt:91:1
 returns-6 : tie.Need-returns-6
 returns-6 c = part _ _ _ 40 _ _ (c .five .ensures .0) (c .before .before .before .before .before .pow2 .ensures) (omega arith)
 

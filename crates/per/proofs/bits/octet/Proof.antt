@@ -4,19 +4,13 @@ use Rattle.per.proofs.Octets.{window-octet, octet-is}
 use borrow.Author.Needs.{needs}
 use Rattle.per.proofs.bits.octet.Statement.{statement}
 use Rattle.per.proofs.bits.octet.Tie as tie
-use Rattle.per.proofs.bits.octet.Reads as reads
-use Rattle.per.proofs.bits.octet.Lts as lts
-use Rattle.per.proofs.bits.wide.Reads as wide-reads
 
--- src/bits.rt:50:10
 shared-slice-read-wide : tie.Need-shared-slice-read-wide
 shared-slice-read-wide c = window-octet _ _ (c .before .before .pre)
 
--- src/bits.rt:50:5
 wide-requires : tie.Need-wide-requires
 wide-requires c κs = search needs
 
--- src/bits.rt:46:1
 returns : tie.Need-returns
 returns c =
     let h = c .before .shared-slice-known2 .given (c .before .before .before .args .i) in

@@ -3,18 +3,13 @@ use Rattle.per.proofs.Octets.{window-length}
 use borrow.Author.Needs.{needs}
 use Rattle.per.proofs.bits.room.Statement.{statement}
 use Rattle.per.proofs.bits.room.Tie as tie
-use Rattle.per.proofs.bits.room.Reads as reads
-use Rattle.per.proofs.bits.room.Lts as lts
 
--- src/bits.rt:34:18
 mul-result : tie.Need-mul-result
 mul-result c = search needs
 
--- src/bits.rt:30:1
 returns : tie.Need-returns
 returns c = simp window-length (omega arith)
 
--- src/bits.rt:30:1
 returns-2 : tie.Need-returns-2
 returns-2 c = simp window-length (omega arith)
 

@@ -2,14 +2,10 @@ use Rattle.per.proofs.Leaf.{above-empty, above-is}
 use native.Mathlib.Omega.{arith}
 use Rattle.per.proofs.cursor.above.Statement.{statement}
 use Rattle.per.proofs.cursor.above.Tie as tie
-use Rattle.per.proofs.cursor.above.Reads as reads
-use Rattle.per.proofs.cursor.above.Lts as lts
 
--- src/cursor.rt:47:9
 returns : tie.Need-returns
 returns c = above-empty _ _ _ (c .if1 .taken)
 
--- src/cursor.rt:43:1
 returns-2 : tie.Need-returns-2
 returns-2 c = above-is _ _ _ (c .if1 .left)
 

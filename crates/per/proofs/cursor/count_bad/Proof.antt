@@ -1,14 +1,10 @@
 use borrow.Author.Tests.{le-leb, lt-leb}
 use Rattle.per.proofs.cursor.count_bad.Statement.{statement}
 use Rattle.per.proofs.cursor.count_bad.Tie as tie
-use Rattle.per.proofs.cursor.count_bad.Reads as reads
-use Rattle.per.proofs.cursor.count_bad.Lts as lts
 
--- src/cursor.rt:64:1
 returns : tie.Need-returns
 returns c = rw (le-leb _ _ (c .if1 .taken))
 
--- src/cursor.rt:64:1
 returns-2 : tie.Need-returns-2
 returns-2 c = rw (lt-leb _ _ (c .if1 .left))
 

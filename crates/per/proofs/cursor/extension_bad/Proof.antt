@@ -1,14 +1,10 @@
 use borrow.Author.Tests.{eq-eqb, ne-eqb}
 use Rattle.per.proofs.cursor.extension_bad.Statement.{statement}
 use Rattle.per.proofs.cursor.extension_bad.Tie as tie
-use Rattle.per.proofs.cursor.extension_bad.Reads as reads
-use Rattle.per.proofs.cursor.extension_bad.Lts as lts
 
--- src/cursor.rt:58:1
 returns : tie.Need-returns
 returns c = rw (eq-eqb _ _ (c .if1 .taken))
 
--- src/cursor.rt:58:1
 returns-2 : tie.Need-returns-2
 returns-2 c = rw (ne-eqb _ _ (c .if1 .left))
 

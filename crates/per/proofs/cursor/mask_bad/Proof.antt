@@ -1,22 +1,16 @@
 use borrow.Author.Tests.{eq-eqb, ne-eqb}
 use Rattle.per.proofs.cursor.mask_bad.Statement.{statement}
 use Rattle.per.proofs.cursor.mask_bad.Tie as tie
-use Rattle.per.proofs.cursor.mask_bad.Reads as reads
-use Rattle.per.proofs.cursor.mask_bad.Lts as lts
 
--- src/cursor.rt:74:9
 returns : tie.Need-returns
 returns c = rw (ne-eqb _ _ (c .if1 .taken))
 
--- src/cursor.rt:78:13
 returns-2 : tie.Need-returns-2
 returns-2 c = rw (eq-eqb _ _ (c .before .before .if1 .left), c .before .if2 .taken, eq-eqb _ _ (c .if3 .taken))
 
--- src/cursor.rt:70:1
 returns-3 : tie.Need-returns-3
 returns-3 c = rw (eq-eqb _ _ (c .before .before .if1 .left), c .before .if2 .taken, ne-eqb _ _ (c .if3 .left))
 
--- src/cursor.rt:70:1
 returns-4 : tie.Need-returns-4
 returns-4 c = rw (eq-eqb _ _ (c .before .if1 .left), c .if2 .left)
 

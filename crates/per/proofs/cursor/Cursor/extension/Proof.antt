@@ -5,30 +5,21 @@ use Rattle.per.proofs.Leaf.{settled-next}
 use borrow.Author.Needs.{needs}
 use Rattle.per.proofs.cursor.Cursor.extension.Statement.{statement}
 use Rattle.per.proofs.cursor.Cursor.extension.Tie as tie
-use Rattle.per.proofs.cursor.Cursor.extension.Reads as reads
-use Rattle.per.proofs.cursor.Cursor.extension.Lts as lts
-use Rattle.per.proofs.cursor.Cursor.settle.Reads as settle-reads
-use Rattle.per.proofs.cursor.Cursor.take.Reads as take-reads
-use Rattle.per.proofs.cursor.extension_bad.Reads as extension-bad-reads
 
--- src/cursor.rt:227:13
 take-requires : tie.Need-take-requires
 take-requires c κs = search needs
 
--- src/cursor.rt:228:32
 extension-bad-requires : tie.Need-extension-bad-requires
 extension-bad-requires c κs = search needs
 
--- src/cursor.rt:228:13
 settle-requires : tie.Need-settle-requires
 settle-requires c κs = search needs
 
--- src/cursor.rt:224:5
 returns : tie.Need-returns
 returns c = rw (c .before .settle .ensures) (record {
-      value-is = refl;
-      next-is = settled-next extensionField refl (omega arith) _ _ (c .before .before .before .take .ensures) (c .before .before .extension-bad .ensures);
-    })
+  value-is = refl;
+  next-is = settled-next extensionField refl (omega arith) _ _ (c .before .before .before .take .ensures) (c .before .before .extension-bad .ensures);
+})
 
 pub extension-spec : {M : Type 1} → statement M
 extension-spec = tie.close (tie.spec take-requires extension-bad-requires settle-requires returns)

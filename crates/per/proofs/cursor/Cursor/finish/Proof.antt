@@ -2,19 +2,13 @@ use Rattle.per.proofs.Ends.{finish-kept, finish-judged}
 use borrow.Author.Needs.{needs}
 use Rattle.per.proofs.cursor.Cursor.finish.Statement.{statement}
 use Rattle.per.proofs.cursor.Cursor.finish.Tie as tie
-use Rattle.per.proofs.cursor.Cursor.finish.Reads as reads
-use Rattle.per.proofs.cursor.Cursor.finish.Lts as lts
-use Rattle.per.proofs.cursor.ending_bad.Reads as ending-bad-reads
 
--- src/cursor.rt:283:13
 returns : tie.Need-returns
 returns c = finish-kept _ _ (c .if1 .taken)
 
--- src/cursor.rt:287:22
 ending-bad-requires : tie.Need-ending-bad-requires
 ending-bad-requires c κs = search needs
 
--- src/cursor.rt:279:5
 returns-2 : tie.Need-returns-2
 returns-2 c = finish-judged _ _ _ (c .before .if1 .left) (c .ending-bad .ensures)
 

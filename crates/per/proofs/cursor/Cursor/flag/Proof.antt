@@ -5,15 +5,10 @@ use Rattle.per.proofs.Leaf.{judged-free}
 use borrow.Author.Needs.{needs}
 use Rattle.per.proofs.cursor.Cursor.flag.Statement.{statement}
 use Rattle.per.proofs.cursor.Cursor.flag.Tie as tie
-use Rattle.per.proofs.cursor.Cursor.flag.Reads as reads
-use Rattle.per.proofs.cursor.Cursor.flag.Lts as lts
-use Rattle.per.proofs.cursor.Cursor.take.Reads as take-reads
 
--- src/cursor.rt:215:13
 take-requires : tie.Need-take-requires
 take-requires c κs = search needs
 
--- src/cursor.rt:212:5
 returns : tie.Need-returns
 returns c = judged-free flagField refl (omega arith) (c .before .before .take .ensures) (λ i. refl) refl
 

@@ -7,49 +7,35 @@ use Rattle.per.proofs.Leaf.{judged-stays, judged-bad, judged-good, abov
 use borrow.Author.Needs.{needs}
 use Rattle.per.proofs.cursor.Cursor.num.Statement.{statement}
 use Rattle.per.proofs.cursor.Cursor.num.Tie as tie
-use Rattle.per.proofs.cursor.Cursor.num.Reads as reads
-use Rattle.per.proofs.cursor.Cursor.num.Lts as lts
-use Rattle.per.proofs.bits.width_of.Reads as width-of-reads
-use Rattle.per.proofs.cursor.Cursor.take.Reads as take-reads
-use Rattle.per.proofs.cursor.above.Reads as above-reads
-use Rattle.per.proofs.cursor.span.Reads as span-reads
 
--- src/cursor.rt:170:39
 span-requires : tie.Need-span-requires
 span-requires c κs = search needs
 
--- src/cursor.rt:170:30
 width-of-requires : tie.Need-width-of-requires
 width-of-requires c κs = search needs
 
--- src/cursor.rt:170:13
 take-requires : tie.Need-take-requires
 take-requires c κs = search needs
 
--- src/cursor.rt:174:13
 returns : tie.Need-returns
-returns c = 
+returns c =
     let w = c .before .before .before .before .width-of .ensures in
     judged-stays (numField _ _) (w .0 ∙ ap width (c .before .before .before .before .before .span .ensures)) (w .1) (c .before .before .before .take .ensures) refl (c .if1 .taken)
 
--- src/cursor.rt:176:12
 above-requires : tie.Need-above-requires
 above-requires c κs = search needs
 
--- src/cursor.rt:177:13
 returns-2 : tie.Need-returns-2
-returns-2 c = 
+returns-2 c =
     let w = c .before .before .before .before .before .before .width-of .ensures in
     judged-bad (numField _ _) (w .0 ∙ ap width (c .before .before .before .before .before .before .before .span .ensures)) (w .1) (c .before .before .before .before .before .take .ensures) 7 (c .before .before .if1 .left)
     (above-8 (c .before .before .before .before .before .before .before .before .before .args .lo) (c .before .before .before .before .before .before .before .before .before .args .hi) (c .before .before .before .before .before .take .result .value) _ (c .before .above .ensures) (c .if2 .taken))
 
--- src/cursor.rt:186:20
 add-t9 : tie.Need-add-t9
 add-t9 c = omega (arith, above-le (c .before .before .before .before .before .before .before .before .before .args .lo) (c .before .before .before .before .before .before .before .before .before .args .hi) (c .before .before .before .before .before .take .result .value) _ (c .before .above .ensures) (c .if2 .left))
 
--- src/cursor.rt:167:5
 returns-3 : tie.Need-returns-3
-returns-3 c = 
+returns-3 c =
     let w = c .before .before .before .before .before .before .width-of .ensures in
     judged-good (numField _ _) (w .0 ∙ ap width (c .before .before .before .before .before .before .before .span .ensures)) (w .1) (c .before .before .before .before .before .take .ensures) (c .before .before .if1 .left)
     (unless-le _ _ 8 (above-le (c .before .before .before .before .before .before .before .before .before .args .lo) (c .before .before .before .before .before .before .before .before .before .args .hi) (c .before .before .before .before .before .take .result .value) _ (c .before .above .ensures) (c .if2 .left)))

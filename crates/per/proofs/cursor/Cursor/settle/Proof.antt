@@ -1,21 +1,16 @@
 use borrow.Author.Tests.{eq-eqb, ne-eqb}
-use Rattle.per.specs.Reading.{settled}
+use Rattle.per.specs.Inner.{settled}
 use Rattle.per.proofs.cursor.Cursor.settle.Statement.{statement}
 use Rattle.per.proofs.cursor.Cursor.settle.Tie as tie
-use Rattle.per.proofs.cursor.Cursor.settle.Reads as reads
-use Rattle.per.proofs.cursor.Cursor.settle.Lts as lts
 
--- src/cursor.rt:152:13
 returns : tie.Need-returns
 unfolding settled
 returns c = rw (ne-eqb _ _ (c .if1 .taken))
 
--- src/cursor.rt:155:13
 returns-2 : tie.Need-returns-2
 unfolding settled
 returns-2 c = rw (eq-eqb _ _ (c .before .if1 .left), ne-eqb _ _ (c .if2 .taken))
 
--- src/cursor.rt:147:5
 returns-3 : tie.Need-returns-3
 unfolding settled
 returns-3 c = rw (eq-eqb _ _ (c .before .if1 .left), eq-eqb _ _ (c .if2 .left))

@@ -6,50 +6,37 @@ use Rattle.per.proofs.Signs.{less-fits, less-is}
 use borrow.Author.Needs.{needs}
 use Rattle.per.proofs.cursor.Cursor.signed.Statement.{statement}
 use Rattle.per.proofs.cursor.Cursor.signed.Tie as tie
-use Rattle.per.proofs.cursor.Cursor.signed.Reads as reads
-use Rattle.per.proofs.cursor.Cursor.signed.Lts as lts
-use Rattle.per.proofs.bits.width_of.Reads as width-of-reads
-use Rattle.per.proofs.cursor.Cursor.take.Reads as take-reads
 
--- src/cursor.rt:252:20
 add-most : tie.Need-add-most
 add-most c = search needs
 
--- src/cursor.rt:253:30
 width-of-requires : tie.Need-width-of-requires
 width-of-requires c κs = search needs
 
--- src/cursor.rt:253:13
 take-requires : tie.Need-take-requires
 take-requires c κs = search needs
 
--- src/cursor.rt:257:13
 returns : tie.Need-returns
-returns c = 
+returns c =
     let w = c .before .before .before .before .width-of .ensures in
     judged-kept (signedField _ _) (w .0) (w .1) (c .before .before .before .take .ensures) (c .if1 .taken)
 
--- src/cursor.rt:263:13
 returns-2 : tie.Need-returns-2
-returns-2 c = 
+returns-2 c =
     let w = c .before .before .before .before .before .width-of .ensures in
     judged-bad (signedField _ _) (w .0) (w .1) (c .before .before .before .before .take .ensures) 7 (c .before .if1 .left) (unless-gt _ _ 8 (c .if2 .taken))
 
--- src/cursor.rt:271:22
 cast-number : tie.Need-cast-number
 cast-number c = search needs
 
--- src/cursor.rt:271:33
 cast-number-2 : tie.Need-cast-number-2
 cast-number-2 c = search needs
 
--- src/cursor.rt:271:22
 sub-number : tie.Need-sub-number
 sub-number c = less-fits (c .before .before .before .before .take .result .value) (c .before .before .before .before .before .before .before .args .below) (omega arith) (omega arith)
 
--- src/cursor.rt:249:5
 returns-3 : tie.Need-returns-3
-returns-3 c = 
+returns-3 c =
     let w = c .before .before .before .before .before .width-of .ensures in
     rw (less-is (c .before .before .before .before .take .result .value) (c .before .before .before .before .before .before .before .args .below) (omega arith) (omega arith))
     (judged-good (signedField _ _) (w .0) (w .1) (c .before .before .before .before .take .ensures) (c .before .if1 .left) (unless-le _ _ 8 (c .if2 .left)))

@@ -4,40 +4,28 @@ use Rattle.per.proofs.Leaf.{take-kept, take-short, take-wide, take-good
 use borrow.Author.Needs.{needs}
 use Rattle.per.proofs.cursor.Cursor.take.Statement.{statement}
 use Rattle.per.proofs.cursor.Cursor.take.Tie as tie
-use Rattle.per.proofs.cursor.Cursor.take.Reads as reads
-use Rattle.per.proofs.cursor.Cursor.take.Lts as lts
-use Rattle.per.proofs.bits.bits_at.Reads as bits-at-reads
-use Rattle.per.proofs.bits.left.Reads as left-reads
 
--- src/cursor.rt:119:13
 returns : tie.Need-returns
 returns c = take-kept _ _ _ (c .if1 .taken)
 
--- src/cursor.rt:124:12
 left-requires : tie.Need-left-requires
 left-requires c κs = search needs
 
--- src/cursor.rt:125:13
 returns-2 : tie.Need-returns-2
 returns-2 c = take-short _ _ _ (omega arith) (omega arith)
 
--- src/cursor.rt:131:13
 returns-3 : tie.Need-returns-3
 returns-3 c = take-wide _ _ _ (omega arith) (omega arith) (c .if3 .taken)
 
--- src/cursor.rt:136:13
 bits-at-requires : tie.Need-bits-at-requires
 bits-at-requires c κs = search needs
 
--- src/cursor.rt:138:20
 cast-t10 : tie.Need-cast-t10
 cast-t10 c = record { fits = run-below 32 _ _ _ _ (c .bits-at .ensures) (omega arith) }
 
--- src/cursor.rt:140:21
 add-t7 : tie.Need-add-t7
 add-t7 c = omega (arith, window-most (c .before .before .before .before .before .before .before .args .s .now))
 
--- src/cursor.rt:114:5
 returns-4 : tie.Need-returns-4
 returns-4 c = take-good _ _ _ _ (omega arith) (omega arith) (omega arith) (c .bits-at .ensures)
 

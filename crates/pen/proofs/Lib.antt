@@ -1,0 +1,5 @@
+pub mod Puts
+pub mod Inks
+pub mod Signs
+pub mod Checks
+pub mod Sheets
