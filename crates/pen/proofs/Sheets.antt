@@ -11,6 +11,7 @@ use lib.Seq.{set-append-left, set-append-seam, set-at, drop-append-le, drop-cons
 use lib.Dec.{eqb, leb, ltb}
 use borrow.Author.Tests.{ltb-true, ltb-false, lt-ltb, le-leb, lt-leb}
 use Rattle.pen.specs.declared.Pen.{Pen}
+use Rattle.pen.specs.declared.Written.{Written}
 use Rattle.pen.specs.declared.Written.the-variants.{Octets, Refused}
 use Rattle.per.specs.Bits.{ofBit, toBit, toBits, bitsOf, numAt}
 use Rattle.per.specs.laws.Bits.{numAt-lt, num-there, num-back, ofBit-lt, to-of, length-toBits}
@@ -244,3 +245,7 @@ module _ {A : Type 0} (c : Codec A) (a : A) (l : length (c .enc a) ≤ 1024) whe
           let m : n ≤ length (putBits blank 0 e) = omega (arith, room) in
           rw (le-leb n (length (putBits blank 0 e)) m, size, sheet-encode)
       go (suc k) = refl
+
+-- ---- how tight the statement of a delivery is: one answer and one content of the output
+pub delivers-one : {p : Pen} {s o t u : List ℕ} {x y : Written} → Delivers p s o x t → Delivers p s o y u → (x ≡ y) × (t ≡ u)
+delivers-one a b = (a .answer-is ∙ sym (b .answer-is), a .octets-is ∙ sym (b .octets-is))

@@ -1,0 +1,332 @@
+"""A PER coder of both ADS PDU families, written from page 01 alone.
+
+It shares nothing with the box it is compared with. First the message table of 01, as data in the
+page's order and words; below it a coder that walks the table (ITU-T X.691, basic unaligned).
+
+    read(family, octets)  -> value, or raises Refused(n)
+    write(family, value)  -> octets, or raises Refused(n)
+
+family is 'air' or 'ground'. Values are plain: whole numbers are int, NULL is None, a choice is
+(name, content), a list is a list, a name is a tuple of eight numbers, and a group of fields is a
+dict that lacks its absent parts. Only an absent interval reads as something: its default.
+"""
+
+import re
+from collections import namedtuple
+
+# Whole numbers lo..hi, both ends allowed.
+RANGES = {
+    'octets': (0, 128),                     # of one input; over it is 16
+    'count': (0, 16),                       # of a list, always 8 bits; over it is 12
+    'air-index': (0, 8),
+    'ground-index': (0, 7),
+    'cancel-contract': (0, 1),              # 0 event, 1 periodic
+    'event-type': (0, 11),
+    'sign': (0, 1),
+    'degrees-latitude': (0, 90),
+    'degrees-longitude': (0, 180),
+    'minutes-of-degree': (0, 59),
+    'tenth-seconds': (0, 599),
+    'level': (-75, 10000),
+    'year': (1996, 2095),
+    'month': (1, 12),
+    'day': (1, 31),
+    'hours': (0, 23),
+    'minutes': (0, 59),
+    'seconds': (0, 59),
+    'accuracy': (0, 7),
+    'boolean': (0, 1),
+    'address': (0, 2 ** 24 - 1),
+    'abort-reason': (0, 7),
+    'request-type': (0, 7),
+    'negative-reason': (0, 3),
+    'character': (0, 127),
+    'noncompliance-index': (0, 2),
+    'report-type': (0, 6),
+    'noncompliance-event-type': (0, 10),    # one less than in the event report
+    'report-type-and-period': (0, 7),
+    'interval-index': (0, 1),
+    'interval-seconds': (1, 59),
+    'interval-minutes': (1, 120),
+    'modulus': (1, 255),
+}
+
+NOT_CARRIED = 'not carried'
+
+# name: format. A mark * behind a name means that an extension bit comes first.
+#   ('choice', index, [(name, format), ..])   the index, then the format it names
+#   ('fields', optional, required)            a presence bit for each optional field, the
+#                                             required fields, the optional ones that are there
+#   ('list', format)                          8 bits of count, then the entries
+#   ('eight', format)                         eight of them
+TABLE = {
+    'air': ('choice', 'air-index', [
+        ('cancel-emergency', 'null'),
+        ('demand-report', 'acked-report*'),
+        ('emergency', 'acked-emergency*'),
+        ('event-report', 'acked-event*'),
+        ('negative-ack', 'negative-ack'),
+        ('noncompliance', 'noncompliance*'),
+        ('periodic-report', 'acked-report*'),
+        ('positive-ack', 'request-type*'),
+        ('provider-abort', 'abort-reason*')]),
+    'ground': ('choice', 'ground-index', [
+        ('cancel-all', 'null'),
+        ('cancel-contract', 'cancel-contract*'),
+        ('cancel-emergency-ack', 'null'),
+        ('demand-contract', 'demand-contract*'),
+        ('event-contract', 'event-contract*'),
+        ('modify-emergency', 'interval'),
+        ('periodic-contract', 'periodic-contract*'),
+        ('provider-abort', 'abort-reason*')]),
+
+    'acked-report': ('fields', [('ack', 'null')], [('report', 'report*')]),
+    'acked-emergency': ('fields', [('ack', 'null')], [('report', 'emergency-report')]),
+    'acked-event': ('fields', [('ack', 'null')], [('event-type', 'event-type*'), ('report', 'report*')]),
+
+    'report': ('fields', [
+        ('address', 'address'), ('projected-profile', NOT_CARRIED), ('ground-vector', NOT_CARRIED),
+        ('air-vector', NOT_CARRIED), ('weather', NOT_CARRIED), ('short-term-intent', NOT_CARRIED),
+        ('extended-profile', NOT_CARRIED)],
+        [('position', 'position'), ('time', 'time'), ('merit', 'merit')]),
+    'emergency-report': ('fields', [('address', 'address'), ('ground-vector', NOT_CARRIED)],
+                         [('position', 'position'), ('time', 'time'), ('merit', 'merit')]),
+    'position': ('fields', [], [('latitude', 'latitude'), ('longitude', 'longitude'), ('level', 'level')]),
+    'latitude': ('fields', [], [('sign', 'sign'), ('degrees', 'degrees-latitude'),
+                                ('minutes', 'minutes-of-degree'), ('tenths', 'tenth-seconds')]),
+    'longitude': ('fields', [], [('sign', 'sign'), ('degrees', 'degrees-longitude'),
+                                 ('minutes', 'minutes-of-degree'), ('tenths', 'tenth-seconds')]),
+    'time': ('fields', [], [('date', 'date'), ('clock', 'clock')]),
+    'date': ('fields', [], [('year', 'year'), ('month', 'month'), ('day', 'day')]),
+    'clock': ('fields', [('seconds', 'seconds')], [('hours', 'hours'), ('minutes', 'minutes')]),
+    'merit': ('fields', [], [('accuracy', 'accuracy'), ('first', 'boolean'), ('second', 'boolean')]),
+
+    'negative-ack': ('fields', [], [('request', 'request-type*'), ('reason', 'negative-reason-choice*')]),
+    'negative-reason-choice': ('choice', 'negative-reason', [
+        ('reason-0', 'null'), ('reason-1', 'null'), ('reason-2', 'names'), ('reason-3', 'null')]),
+    'names': ('list', 'name'),
+    'name': ('eight', 'character'),
+    'noncompliance': ('choice', 'noncompliance-index', [
+        ('demand', 'report-types'), ('event', 'event-types'), ('periodic', 'types-and-periods')]),
+    'report-types': ('list', 'report-type*'),
+    'event-types': ('list', 'noncompliance-event-type*'),
+    'types-and-periods': ('list', 'report-type-and-period*'),
+
+    'interval': ('choice', 'interval-index', [('seconds', 'interval-seconds'), ('minutes', 'interval-minutes')]),
+    'demand-contract': ('fields', [
+        ('address', 'null'), ('projected-profile', 'null'), ('ground-vector', 'null'), ('air-vector', 'null'),
+        ('weather', 'null'), ('short-term-intent', NOT_CARRIED), ('extended-profile', NOT_CARRIED)], []),
+    'event-contract': ('fields', [
+        ('element-1', NOT_CARRIED), ('element-2', NOT_CARRIED), ('element-3', NOT_CARRIED),
+        ('waypoint-change', 'null'), ('element-5', NOT_CARRIED), ('element-6', NOT_CARRIED),
+        ('element-7', NOT_CARRIED), ('element-8', NOT_CARRIED), ('merit-change', 'null'),
+        ('element-10', NOT_CARRIED), ('element-11', NOT_CARRIED)], []),
+    'periodic-contract': ('fields', [
+        ('interval', 'interval'), ('address', 'modulus'), ('projected-profile', 'modulus'),
+        ('ground-vector', 'modulus'), ('air-vector', 'modulus'), ('weather', 'modulus'),
+        ('short-term-intent', NOT_CARRIED), ('extended-profile', NOT_CARRIED)], []),
+}
+
+DEFAULTS = {('periodic-contract', 'interval'): ('minutes', 5)}
+NEEDS_ONE = {'event-contract'}
+
+
+class Refused(Exception):
+    def __init__(self, number):
+        super().__init__(number)
+        self.number = number
+
+
+def width(name):
+    """The fewest bits that hold hi minus lo."""
+    low, high = RANGES[name]
+    return (high - low).bit_length()
+
+
+def judge_presence(form, optional, present):
+    """10 and 15 stand right after the presence bits, when reading and when writing."""
+    if any(there and content == NOT_CARRIED for (_, content), there in zip(optional, present)):
+        raise Refused(10)
+    if form in NEEDS_ONE and not any(present):
+        raise Refused(15)
+
+
+class Reader:
+    """The bits of one input and the place reached in them."""
+
+    def __init__(self, octets):
+        self.bits = ''.join(f'{octet:08b}' for octet in octets)
+        self.place = 0
+
+    def take(self, bits):
+        start, self.place = self.place, self.place + bits
+        if self.place > len(self.bits):     # 7 before the judgement of the field
+            raise Refused(7)
+        return int(self.bits[start:self.place] or '0', 2)
+
+    def number(self, name):
+        low, high = RANGES[name]
+        sent = self.take(width(name))
+        if sent > high - low:
+            raise Refused(8)
+        return low + sent
+
+    def read(self, form):
+        if form.endswith('*'):
+            if self.take(1):                # judged before the next bits are sought
+                raise Refused(9)
+            form = form[:-1]
+        if form == 'null':
+            return None
+        if form in RANGES:
+            return self.number(form)
+        kind, *parts = TABLE[form]
+        return getattr(self, kind)(form, *parts)
+
+    def choice(self, form, index, alternatives):
+        name, content = alternatives[self.number(index)]
+        return name, self.read(content)
+
+    def fields(self, form, optional, required):
+        sent = self.take(len(optional))     # all presence bits are one field
+        present = [bool(sent >> place & 1) for place in reversed(range(len(optional)))]
+        judge_presence(form, optional, present)
+        value = {name: self.read(content) for name, content in required}
+        for (name, content), there in zip(optional, present):
+            default = DEFAULTS.get((form, name))
+            if there:
+                value[name] = self.read(content)
+                if default and value[name] == default:
+                    raise Refused(11)       # right after the interval
+            elif default:
+                value[name] = default
+        return value
+
+    def list(self, form, content):
+        count = self.take(8)
+        if count > RANGES['count'][1]:      # 17..255, the long form of X.691 too
+            raise Refused(12)
+        return [self.read(content) for _ in range(count)]
+
+    def eight(self, form, content):
+        return tuple(self.read(content) for _ in range(8))
+
+
+def read(family, octets):
+    if len(octets) > RANGES['octets'][1]:
+        raise Refused(16)
+    reader = Reader(octets)
+    value = reader.read(family + '*')
+    end = (reader.place + 7) // 8 * 8
+    if '1' in reader.bits[reader.place:end]:
+        raise Refused(13)
+    if end < len(reader.bits):
+        raise Refused(14)
+    return value
+
+
+# What is sent, field by field; tests alter single pieces to make inputs that no value gives.
+# kind: extension, presence, index, number or count. name: the range or the group of fields.
+Piece = namedtuple('Piece', 'kind name sent width')
+
+
+class Writer:
+    def __init__(self):
+        self.pieces = []
+
+    def put(self, kind, name, sent, bits):
+        self.pieces.append(Piece(kind, name, sent, bits))
+
+    def number(self, name, value, kind='number'):
+        low, high = RANGES[name]
+        if not low <= value <= high:
+            raise Refused(5)
+        self.put(kind, name, value - low, width(name))
+
+    def write(self, form, value):
+        if form.endswith('*'):
+            form = form[:-1]
+            self.put('extension', form, 0, 1)
+        if form in RANGES:
+            self.number(form, value)
+        elif form != 'null':
+            kind, *parts = TABLE[form]
+            getattr(self, kind)(form, value, *parts)
+
+    def choice(self, form, value, index, alternatives):
+        names = [name for name, _ in alternatives]
+        if value[0] not in names:           # an unused index
+            raise Refused(5)
+        place = names.index(value[0])
+        self.number(index, place, 'index')
+        self.write(alternatives[place][1], value[1])
+
+    def fields(self, form, value, optional, required):
+        known = [name for name, _ in optional + required]
+        assert all(name in known for name in value), (form, value)
+        # The default interval is never sent, whether the value names it or not.
+        present = [name in value and value[name] != DEFAULTS.get((form, name), ()) for name, _ in optional]
+        judge_presence(form, optional, present)
+        if optional:
+            self.put('presence', form, int(''.join('01'[there] for there in present), 2), len(optional))
+        for name, content in required:
+            self.write(content, value[name])
+        for (name, content), there in zip(optional, present):
+            if there:
+                self.write(content, value[name])
+
+    def list(self, form, value, content):
+        if len(value) > RANGES['count'][1]:     # at the count, before any entry
+            raise Refused(12)
+        self.put('count', 'count', len(value), 8)
+        for entry in value:
+            self.write(content, entry)
+
+    def eight(self, form, value, content):
+        assert len(value) == 8, value
+        for entry in value:
+            self.write(content, entry)
+
+
+def pieces(family, value):
+    writer = Writer()
+    writer.write(family + '*', value)
+    return writer.pieces
+
+
+def pack(sent):
+    """The octets of some pieces, filled to an octet with zeros."""
+    bits = ''.join(f'{piece.sent:0{piece.width}b}' for piece in sent if piece.width)
+    bits += '0' * (-len(bits) % 8)
+    return int('1' + bits, 2).to_bytes(len(bits) // 8 + 1, 'big')[1:]
+
+
+def write(family, value):
+    return pack(pieces(family, value))
+
+
+LINE = re.compile(rb'(air|ground)(?: ((?:[0-9a-f]{2})+))?')
+
+
+def answer(line):
+    """The answer due to one line (octets without LF), and (family, message) if it is ok."""
+    match = LINE.fullmatch(line)
+    if match is None or len(line) > 4096:
+        return 'refused 17', None
+    family = match[1].decode()
+    octets = bytes.fromhex((match[2] or b'').decode())
+    try:
+        value = read(family, octets)
+    except Refused as refusal:
+        return f'refused {refusal.number}', None
+    assert write(family, value) == octets, line     # what reads well is the written form
+    return f'ok {octets.hex()}', (family, value[0])
+
+
+def shift(name):
+    """Move the upper end of one range up by one, to test that a comparison finds it."""
+    low, high = RANGES[name]
+    RANGES[name] = (low, high + 1)
+    for kind, *parts in TABLE.values():
+        if kind == 'choice' and parts[0] == name:
+            parts[1].append(('one-more', 'null'))

@@ -1,0 +1,183 @@
+"""Checks of percoder.py against page 01: its examples, encodings worked out by hand, refusals."""
+
+import random
+import sys
+
+from compare_coder import random_value
+from percoder import Refused, read, write
+
+checks = failures = 0
+
+
+def check(what, got, wanted):
+    global checks, failures
+    checks += 1
+    if got != wanted:
+        failures += 1
+        print(f'{what}: got {got!r}, wanted {wanted!r}')
+
+
+def refusal(call, *args):
+    try:
+        return call(*args)
+    except Refused as refused:
+        return refused.number
+
+
+def same(what, family, value, octets):
+    check(what + ' written', refusal(write, family, value), octets)
+    check(what + ' read', refusal(read, family, octets), value)
+
+
+def bits(text):
+    """Octets of bits written out field by field, filled with zeros."""
+    text = text.replace(' ', '')
+    text += '0' * (-len(text) % 8)
+    return bytes(int(text[place:place + 8], 2) for place in range(0, len(text), 8))
+
+
+def report(level=0, **more):
+    """The report of P13: all zero, 1996-01-01 00:00, no seconds."""
+    zero = {'sign': 0, 'degrees': 0, 'minutes': 0, 'tenths': 0}
+    return {'position': {'latitude': zero, 'longitude': zero, 'level': level},
+            'time': {'date': {'year': 1996, 'month': 1, 'day': 1}, 'clock': {'hours': 0, 'minutes': 0}},
+            'merit': {'accuracy': 0, 'first': 0, 'second': 0}, **more}
+
+
+FIVE = ('minutes', 5)
+
+# P1 to P13 (01, bench examples).
+same('P1', 'air', ('cancel-emergency', None), bytes.fromhex('00'))
+same('P2', 'ground', ('provider-abort', 4), bytes.fromhex('74'))
+same('P3', 'air', ('provider-abort', 4), bytes.fromhex('42 00'))
+same('P4', 'ground', ('cancel-contract', 1), bytes.fromhex('14'))
+same('P5', 'air', ('positive-ack', 1), bytes.fromhex('38 80'))
+same('P6', 'air', ('negative-ack', {'request': 2, 'reason': ('reason-3', None)}), bytes.fromhex('21 30'))
+same('P7', 'ground', ('modify-emergency', FIVE), bytes.fromhex('58 40'))
+same('P8', 'ground', ('demand-contract', {}), bytes.fromhex('30 00'))
+same('P9', 'ground', ('event-contract', {'waypoint-change': None}), bytes.fromhex('40 80'))
+same('P10', 'ground', ('periodic-contract', {'interval': ('minutes', 1)}), bytes.fromhex('64 04 00'))
+check('P11', refusal(read, 'ground', bytes.fromhex('64 04 20')), 11)
+check('P12', refusal(read, 'air', b''), 7)
+check('P12', refusal(read, 'ground', b''), 7)
+same('P13', 'air', ('demand-report', {'report': report()}), bytes.fromhex('08' + '00' * 7 + '01 2c' + '00' * 4))
+check('others', refusal(read, 'ground', bytes.fromhex('75 00')), 14)
+check('others', refusal(read, 'ground', bytes.fromhex('15')), 13)
+
+# Worked out by hand, one field after the other. Latitude -45 07' 59.9", longitude +180 59' 00.1",
+# level 10000, 2095-12-31 23:59:58, merit 5 with the second boolean, address abcdef.
+FULL = {
+    'position': {'latitude': {'sign': 1, 'degrees': 45, 'minutes': 7, 'tenths': 599},
+                 'longitude': {'sign': 0, 'degrees': 180, 'minutes': 59, 'tenths': 1}, 'level': 10000},
+    'time': {'date': {'year': 2095, 'month': 12, 'day': 31}, 'clock': {'hours': 23, 'minutes': 59, 'seconds': 58}},
+    'merit': {'accuracy': 5, 'first': 0, 'second': 1}, 'address': 0xabcdef}
+FULL_BITS = ('1 0101101 000111 1001010111  0 10110100 111011 0000000001  10011101011011'
+             '  1100011 1011 11110  1 10111 111011 111010  101 0 1  101010111100110111101111')
+# Lowest of everything: level -75 goes as 0.
+LOW_BITS = '0' * (24 + 25 + 14 + 16 + 1 + 11 + 5)
+
+HAND = [
+    # air: extension bit, 4 bits of index
+    ('air', ('cancel-emergency', None), '0 0000'),
+    ('air', ('demand-report', {'ack': None, 'report': FULL}), '0 0001  0 1  0 1000000' + FULL_BITS),
+    ('air', ('demand-report', {'report': report(-75)}), '0 0001  0 0  0 0000000' + LOW_BITS),
+    ('air', ('emergency', {'ack': None, 'report': FULL}), '0 0010  0 1  10' + FULL_BITS),
+    ('air', ('emergency', {'report': report(-75)}), '0 0010  0 0  00' + LOW_BITS),
+    ('air', ('event-report', {'ack': None, 'event-type': 11, 'report': FULL}),
+     '0 0011  0 1  0 1011  0 1000000' + FULL_BITS),
+    ('air', ('event-report', {'event-type': 0, 'report': report(-75)}),
+     '0 0011  0 0  0 0000  0 0000000' + LOW_BITS),
+    ('air', ('negative-ack', {'request': 7, 'reason': ('reason-0', None)}), '0 0100  0 111  0 00'),
+    ('air', ('negative-ack', {'request': 1, 'reason': ('reason-2', [])}), '0 0100  0 001  0 10  00000000'),
+    ('air', ('negative-ack', {'request': 0, 'reason': ('reason-2', [(65, 66, 67, 48, 32, 0, 127, 64)])}),
+     '0 0100  0 000  0 10  00000001'
+     '  1000001 1000010 1000011 0110000 0100000 0000000 1111111 1000000'),
+    ('air', ('noncompliance', ('demand', [6, 0])), '0 0101  0 00  00000010  0 110  0 000'),
+    ('air', ('noncompliance', ('event', [10])), '0 0101  0 01  00000001  0 1010'),
+    ('air', ('noncompliance', ('periodic', [7] * 16)), '0 0101  0 10  00010000' + '  0 111' * 16),
+    ('air', ('periodic-report', {'report': FULL}), '0 0110  0 0  0 1000000' + FULL_BITS),
+    ('air', ('positive-ack', 7), '0 0111  0 111'),
+    ('air', ('provider-abort', 7), '0 1000  0 111'),
+    # ground: extension bit, 3 bits of index
+    ('ground', ('cancel-all', None), '0 000'),
+    ('ground', ('cancel-contract', 0), '0 001  0 0'),
+    ('ground', ('cancel-emergency-ack', None), '0 010'),
+    ('ground', ('demand-contract', {'address': None, 'weather': None}), '0 011  0 1000100'),
+    ('ground', ('demand-contract', dict.fromkeys(
+        ['address', 'projected-profile', 'ground-vector', 'air-vector', 'weather'])), '0 011  0 1111100'),
+    ('ground', ('event-contract', {'merit-change': None}), '0 100  0 00000000100'),
+    ('ground', ('event-contract', {'waypoint-change': None, 'merit-change': None}), '0 100  0 00010000100'),
+    ('ground', ('modify-emergency', ('seconds', 59)), '0 101  0 111010'),
+    ('ground', ('modify-emergency', ('minutes', 120)), '0 101  1 1110111'),
+    ('ground', ('periodic-contract', {'interval': FIVE}), '0 110  0 00000000'),
+    ('ground', ('periodic-contract', {'interval': ('seconds', 5), 'address': 1, 'weather': 255}),
+     '0 110  0 11000100  0 000100  00000000 11111110'),
+    ('ground', ('periodic-contract', {'interval': FIVE, 'projected-profile': 2, 'ground-vector': 3, 'air-vector': 4}),
+     '0 110  0 00111000  00000001 00000010 00000011'),
+    ('ground', ('provider-abort', 2), '0 111  0 010'),
+]
+for family, value, text in HAND:
+    same(f'{family} {value[0]}', family, value, bits(text))
+check('kinds by hand', len({(family, value[0]) for family, value, _ in HAND}), 9 + 8)
+
+# An interval of 5 minutes is never sent, absent or named.
+check('no interval', refusal(write, 'ground', ('periodic-contract', {})), bits('0 110  0 00000000'))
+# Minus zero stays.
+minus = report()
+minus['position'] = dict(minus['position'], latitude={'sign': 1, 'degrees': 0, 'minutes': 0, 'tenths': 0})
+check('minus zero', read('air', write('air', ('demand-report', {'report': minus}))), ('demand-report', {'report': minus}))
+
+
+def plain(value):
+    return ('demand-report', {'report': value})
+
+
+def names(count, name=(0,) * 8, request=0):
+    return ('negative-ack', {'request': request, 'reason': ('reason-2', [name] * count)})
+
+
+# Refusals of writing, with the order in which fields are sent.
+for what, family, value, wanted in [
+        ('level -76', 'air', plain(report(-76)), 5),
+        ('level 10001', 'air', plain(report(10001)), 5),
+        ('address', 'air', plain(report(address=2 ** 24)), 5),
+        ('seconds 60', 'ground', ('modify-emergency', ('seconds', 60)), 5),
+        ('minutes 0', 'ground', ('modify-emergency', ('minutes', 0)), 5),
+        ('minutes 121', 'ground', ('periodic-contract', {'interval': ('minutes', 121)}), 5),
+        ('modulus 0', 'ground', ('periodic-contract', {'address': 0}), 5),
+        ('cancel-contract 2', 'ground', ('cancel-contract', 2), 5),
+        ('unused index', 'air', ('no-such-message', None), 5),
+        ('unused index', 'air', ('noncompliance', ('no-such-list', [])), 5),
+        ('boolean 2', 'air', plain(report(merit={'accuracy': 0, 'first': 2, 'second': 0})), 5),
+        ('sign 2', 'air', plain(report(position=dict(minus['position'], latitude={
+            'sign': 2, 'degrees': 0, 'minutes': 0, 'tenths': 0}))), 5),
+        ('abort reason 8', 'ground', ('provider-abort', 8), 5),
+        ('event type 11 in a list', 'air', ('noncompliance', ('event', [11])), 5),
+        ('character 128', 'air', names(1, (0,) * 7 + (128,)), 5),
+        ('report element', 'air', plain(report(weather=None)), 10),
+        ('emergency element', 'air', ('emergency', {'report': report(**{'ground-vector': None})}), 10),
+        ('demand element', 'ground', ('demand-contract', {'short-term-intent': None}), 10),
+        ('periodic element', 'ground', ('periodic-contract', {'extended-profile': 1}), 10),
+        ('event element', 'ground', ('event-contract', {'waypoint-change': None, 'element-11': None}), 10),
+        ('event element alone', 'ground', ('event-contract', {'element-1': None}), 10),
+        ('17 names', 'air', names(17), 12),
+        ('17 types', 'air', ('noncompliance', ('demand', [0] * 17)), 12),
+        ('no element', 'ground', ('event-contract', {}), 15),
+        ('presence before level', 'air', plain(report(20000, weather=None)), 10),
+        ('event type before presence', 'air', ('event-report', {'event-type': 12, 'report': report(weather=None)}), 5),
+        ('count before entry', 'air', ('noncompliance', ('demand', [9] * 17)), 12),
+        ('count before character', 'air', names(17, (200,) * 8), 12),
+        ('request type before count', 'air', names(17, request=8), 5),
+        ('presence before interval', 'ground', ('periodic-contract', {'interval': ('seconds', 0), 'extended-profile': 1}), 10)]:
+    check(what, refusal(write, family, value), wanted)
+
+rng = random.Random(691)
+for _ in range(1000):
+    for family in ('air', 'ground'):
+        value = random_value(rng, family)
+        check('round trip', refusal(read, family, write(family, value)), value)
+
+if failures:
+    print(f'percoder: {failures} of {checks} checks failed')
+    sys.exit(1)
+print(f'percoder: {checks} checks passed')
