@@ -223,8 +223,9 @@ def main():
     rng = random.Random(seed)
     lines = [random_line(rng) for _ in range(options.count)]
     expected, met = [], set()
-    for _, line in lines:
+    for made, line in lines:
         text, kind = percoder.answer(line)
+        assert (made == 'unreadable') == (text == 'refused 17'), line
         expected.append(text)
         met.add(kind)
     run = subprocess.run(program, input=b''.join(line + b'\n' for _, line in lines), stdout=subprocess.PIPE)

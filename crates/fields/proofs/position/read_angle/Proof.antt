@@ -1,3 +1,5 @@
+use Rattle.per.proofs.Compose.{then, like}
+use Rattle.fields.specs.Table.{angleC}
 use borrow.Author.Needs.{needs}
 use Rattle.fields.proofs.position.read_angle.Statement.{statement}
 use Rattle.fields.proofs.position.read_angle.Tie as tie
@@ -24,7 +26,8 @@ num-requires-3 c κs = search needs
 
 -- src/position.rt:33:1
 returns : tie.Need-returns
-returns c = ?
+unfolding angleC
+returns c = like _ _ _ _ (then (c .before .before .before .before .flag .ensures) (then (c .before .before .before .num .ensures) (then (c .before .before .num2 .ensures) (c .before .num3 .ensures))))
 
 pub read-angle-spec : {M : Type 1} → statement M
 read-angle-spec =

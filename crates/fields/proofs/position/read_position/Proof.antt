@@ -1,3 +1,5 @@
+use Rattle.per.proofs.Compose.{then, like}
+use Rattle.fields.specs.Table.{positionC}
 use borrow.Author.Needs.{needs}
 use Rattle.fields.proofs.position.read_position.Statement.{statement}
 use Rattle.fields.proofs.position.read_position.Tie as tie
@@ -20,7 +22,8 @@ signed-requires c κs = search needs
 
 -- src/position.rt:59:1
 returns : tie.Need-returns
-returns c = ?
+unfolding positionC
+returns c = like _ _ _ _ (then (c .before .before .before .before .before .before .read-angle .ensures) (then (c .before .before .before .before .before .read-angle2 .ensures) (c .before .before .before .before .signed .ensures)))
 
 pub read-position-spec : {M : Type 1} → statement M
 read-position-spec =

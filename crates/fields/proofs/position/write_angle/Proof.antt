@@ -1,3 +1,7 @@
+use mathlib.Core.Path.{refl}
+use Rattle.per.specs.Formats.{field}
+use Rattle.pen.proofs.Inks.{inks-by, inks-like}
+use Rattle.fields.specs.Table.{angleC}
 use borrow.Author.Needs.{needs}
 use Rattle.fields.proofs.position.write_angle.Statement.{statement}
 use Rattle.fields.proofs.position.write_angle.Tie as tie
@@ -24,7 +28,8 @@ num-requires-3 c κs = search needs
 
 -- src/position.rt:50:1
 returns : tie.Need-returns
-returns c = ?
+unfolding angleC field
+returns c = inks-like _ _ _ _ refl (inks-by _ _ (c .before .before .before .before .before .before .flag .ensures) (inks-by _ _ (c .before .before .before .before .num .ensures) (inks-by _ _ (c .before .before .num2 .ensures) (c .num3 .ensures))))
 
 pub write-angle-spec : {M : Type 1} → statement M
 write-angle-spec =

@@ -1,3 +1,6 @@
+use mathlib.Core.Path.{refl}
+use Rattle.pen.proofs.Inks.{inks-by, inks-like}
+use Rattle.fields.specs.Table.{positionC}
 use borrow.Author.Needs.{needs}
 use Rattle.fields.proofs.position.write_position.Statement.{statement}
 use Rattle.fields.proofs.position.write_position.Tie as tie
@@ -20,7 +23,8 @@ signed-requires c κs = search needs
 
 -- src/position.rt:77:1
 returns : tie.Need-returns
-returns c = ?
+unfolding positionC
+returns c = inks-like _ _ _ _ refl (inks-by _ _ (c .before .before .before .before .write-angle .ensures) (inks-by _ _ (c .before .before .write-angle2 .ensures) (c .signed .ensures)))
 
 pub write-position-spec : {M : Type 1} → statement M
 write-position-spec =

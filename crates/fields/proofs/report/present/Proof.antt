@@ -1,3 +1,4 @@
+use Rattle.fields.specs.Table.{has}
 use borrow.Author.Needs.{needs}
 use Rattle.fields.proofs.report.present.Statement.{statement}
 use Rattle.fields.proofs.report.present.Tie as tie
@@ -10,7 +11,8 @@ div-result c = search needs
 
 -- src/report.rt:49:1
 returns : tie.Need-returns
-returns c = ?
+unfolding has
+returns c = search needs
 
 pub present-spec : {M : Type 1} → statement M
 present-spec = tie.close (tie.spec div-result returns)

@@ -1,3 +1,5 @@
+use Rattle.per.proofs.Compose.{then, by, like}
+use Rattle.fields.specs.Table.{emergencyReportC}
 use borrow.Author.Needs.{needs}
 use Rattle.fields.proofs.report.read_emergency_report.Statement.{statement}
 use Rattle.fields.proofs.report.read_emergency_report.Tie as tie
@@ -26,7 +28,9 @@ num-if-requires c κs = search needs
 
 -- src/report.rt:111:1
 returns : tie.Need-returns
-returns c = ?
+unfolding emergencyReportC
+returns c = 
+    like _ _ _ _ (by _ (c .before .before .before .before .before .mask .ensures) (then (c .before .before .before .before .read-fix .ensures) (rw (c .before .before .before .present .ensures) at (c .before .before .num-if .ensures))))
 
 pub read-emergency-report-spec : {M : Type 1} → statement M
 read-emergency-report-spec =

@@ -1,3 +1,5 @@
+use Rattle.per.proofs.Compose.{then, like}
+use Rattle.fields.specs.Table.{fixC}
 use borrow.Author.Needs.{needs}
 use Rattle.fields.proofs.report.read_fix.Statement.{statement}
 use Rattle.fields.proofs.report.read_fix.Tie as tie
@@ -21,7 +23,8 @@ read-merit-requires c κs = search needs
 
 -- src/report.rt:56:1
 returns : tie.Need-returns
-returns c = ?
+unfolding fixC
+returns c = like _ _ _ _ (then (c .before .before .before .before .before .before .read-position .ensures) (then (c .before .before .before .before .before .read-time .ensures) (c .before .before .before .before .read-merit .ensures)))
 
 pub read-fix-spec : {M : Type 1} → statement M
 read-fix-spec =

@@ -1,3 +1,5 @@
+use Rattle.per.proofs.Compose.{then, by, like, after-ext}
+use Rattle.fields.specs.Table.{reportC}
 use borrow.Author.Needs.{needs}
 use Rattle.fields.proofs.report.read_report.Statement.{statement}
 use Rattle.fields.proofs.report.read_report.Tie as tie
@@ -31,7 +33,10 @@ num-if-requires c κs = search needs
 
 -- src/report.rt:85:1
 returns : tie.Need-returns
-returns c = ?
+unfolding reportC
+returns c = 
+    like _ _ _ _ (after-ext (c .before .before .before .before .before .before .extension .ensures) (by _ (c .before .before .before .before .before .mask .ensures)
+    (then (c .before .before .before .before .read-fix .ensures) (rw (c .before .before .before .present .ensures) at (c .before .before .num-if .ensures)))))
 
 pub read-report-spec : {M : Type 1} → statement M
 read-report-spec =

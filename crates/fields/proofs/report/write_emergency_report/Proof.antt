@@ -1,3 +1,7 @@
+use mathlib.Core.Path.{refl}
+use Rattle.per.specs.Formats.{field, only}
+use Rattle.pen.proofs.Inks.{inks-by, inks-like}
+use Rattle.fields.specs.Table.{emergencyReportC}
 use borrow.Author.Needs.{needs}
 use Rattle.fields.proofs.report.write_emergency_report.Statement.{statement}
 use Rattle.fields.proofs.report.write_emergency_report.Tie as tie
@@ -26,7 +30,9 @@ num-if-requires c κs = search needs
 
 -- src/report.rt:127:1
 returns : tie.Need-returns
-returns c = ?
+unfolding emergencyReportC field only
+returns c = 
+    inks-like _ _ _ _ refl (inks-by _ _ (c .before .before .before .before .before .mask .ensures) (inks-by _ _ (c .before .before .before .write-fix .ensures) (rw (c .before .present .ensures) at (c .num-if .ensures))))
 
 pub write-emergency-report-spec : {M : Type 1} → statement M
 write-emergency-report-spec =

@@ -1,3 +1,6 @@
+use mathlib.Core.Path.{refl}
+use Rattle.pen.proofs.Inks.{inks-by, inks-like}
+use Rattle.fields.specs.Table.{fixC}
 use borrow.Author.Needs.{needs}
 use Rattle.fields.proofs.report.write_fix.Statement.{statement}
 use Rattle.fields.proofs.report.write_fix.Tie as tie
@@ -21,7 +24,8 @@ write-merit-requires c κs = search needs
 
 -- src/report.rt:74:1
 returns : tie.Need-returns
-returns c = ?
+unfolding fixC
+returns c = inks-like _ _ _ _ refl (inks-by _ _ (c .before .before .before .before .write-position .ensures) (inks-by _ _ (c .before .before .write-time .ensures) (c .write-merit .ensures)))
 
 pub write-fix-spec : {M : Type 1} → statement M
 write-fix-spec =

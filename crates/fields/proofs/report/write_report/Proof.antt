@@ -1,3 +1,7 @@
+use mathlib.Core.Path.{refl}
+use Rattle.per.specs.Formats.{field, only}
+use Rattle.pen.proofs.Inks.{inks-by, inks-like, inks-ext}
+use Rattle.fields.specs.Table.{reportC}
 use borrow.Author.Needs.{needs}
 use Rattle.fields.proofs.report.write_report.Statement.{statement}
 use Rattle.fields.proofs.report.write_report.Tie as tie
@@ -31,7 +35,10 @@ num-if-requires c κs = search needs
 
 -- src/report.rt:101:1
 returns : tie.Need-returns
-returns c = ?
+unfolding reportC field only
+returns c = 
+    inks-like _ _ _ _ refl (inks-ext (c .before .before .before .before .before .before .before .extension .ensures) (inks-by _ _ (c .before .before .before .before .before .mask .ensures)
+    (inks-by _ _ (c .before .before .before .write-fix .ensures) (rw (c .before .present .ensures) at (c .num-if .ensures)))))
 
 pub write-report-spec : {M : Type 1} → statement M
 write-report-spec =

@@ -1,3 +1,5 @@
+use Rattle.per.proofs.Compose.{then, like}
+use Rattle.fields.specs.Table.{meritC}
 use borrow.Author.Needs.{needs}
 use Rattle.fields.proofs.time.read_merit.Statement.{statement}
 use Rattle.fields.proofs.time.read_merit.Tie as tie
@@ -20,7 +22,8 @@ flag-requires-2 c κs = search needs
 
 -- src/time.rt:72:1
 returns : tie.Need-returns
-returns c = ?
+unfolding meritC
+returns c = like _ _ _ _ (then (c .before .before .before .num .ensures) (then (c .before .before .flag .ensures) (c .before .flag2 .ensures)))
 
 pub read-merit-spec : {M : Type 1} → statement M
 read-merit-spec = tie.close (tie.spec num-requires flag-requires flag-requires-2 returns)

@@ -1,3 +1,5 @@
+use Rattle.per.proofs.Compose.{then, by, like}
+use Rattle.fields.specs.Table.{timeC}
 use borrow.Author.Needs.{needs}
 use Rattle.fields.proofs.time.read_time.Statement.{statement}
 use Rattle.fields.proofs.time.read_time.Tie as tie
@@ -37,7 +39,10 @@ num-if-requires c κs = search needs
 
 -- src/time.rt:37:1
 returns : tie.Need-returns
-returns c = ?
+unfolding timeC
+returns c = 
+    like _ _ _ _ (then (c .before .before .before .before .before .before .before .num .ensures) (then (c .before .before .before .before .before .before .num2 .ensures) (then (c .before .before .before .before .before .num3 .ensures) (by _ (c .before .before .before .before .flag .ensures)
+    (then (c .before .before .before .num4 .ensures) (then (c .before .before .num5 .ensures) (c .before .num-if .ensures)))))))
 
 pub read-time-spec : {M : Type 1} → statement M
 read-time-spec =

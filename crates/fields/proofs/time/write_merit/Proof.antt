@@ -1,3 +1,6 @@
+use mathlib.Core.Path.{refl}
+use Rattle.pen.proofs.Inks.{inks-by, inks-like}
+use Rattle.fields.specs.Table.{meritC}
 use borrow.Author.Needs.{needs}
 use Rattle.fields.proofs.time.write_merit.Statement.{statement}
 use Rattle.fields.proofs.time.write_merit.Tie as tie
@@ -20,7 +23,8 @@ flag-requires-2 c κs = search needs
 
 -- src/time.rt:87:1
 returns : tie.Need-returns
-returns c = ?
+unfolding meritC
+returns c = inks-like _ _ _ _ refl (inks-by _ _ (c .before .before .before .before .num .ensures) (inks-by _ _ (c .before .before .flag .ensures) (c .flag2 .ensures)))
 
 pub write-merit-spec : {M : Type 1} → statement M
 write-merit-spec = tie.close (tie.spec num-requires flag-requires flag-requires-2 returns)

@@ -1,3 +1,7 @@
+use mathlib.Core.Path.{refl}
+use Rattle.per.specs.Formats.{field}
+use Rattle.pen.proofs.Inks.{inks-by, inks-like}
+use Rattle.fields.specs.Table.{timeC}
 use borrow.Author.Needs.{needs}
 use Rattle.fields.proofs.time.write_time.Statement.{statement}
 use Rattle.fields.proofs.time.write_time.Tie as tie
@@ -37,7 +41,10 @@ num-if-requires c κs = search needs
 
 -- src/time.rt:60:1
 returns : tie.Need-returns
-returns c = ?
+unfolding timeC field
+returns c = 
+    inks-like _ _ _ _ refl (inks-by _ _ (c .before .before .before .before .before .before .before .before .before .before .before .before .num .ensures) (inks-by _ _ (c .before .before .before .before .before .before .before .before .before .before .num2 .ensures) (inks-by _ _ (c .before .before .before .before .before .before .before .before .num3 .ensures) (inks-by _ _ (c .before .before .before .before .before .before .flag .ensures)
+    (inks-by _ _ (c .before .before .before .before .num4 .ensures) (inks-by _ _ (c .before .before .num5 .ensures) (c .num-if .ensures)))))))
 
 pub write-time-spec : {M : Type 1} → statement M
 write-time-spec =
