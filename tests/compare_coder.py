@@ -16,7 +16,7 @@ import subprocess
 import sys
 
 import percoder
-from percoder import DEFAULTS, NEEDS_ONE, NOT_CARRIED, RANGES, TABLE, pack, pieces
+from percoder import DEFAULTS, NEEDS_ONE, NOT_CARRIED, RANGES, TABLE, pack, pieces, width
 
 REFUSALS = range(7, 18)
 
@@ -79,12 +79,10 @@ def places(sent, test):
     return [place for place, piece in enumerate(sent) if test(piece)]
 
 
-def spare(piece):
-    """Raw numbers that fit the bits of a field but lie above its range."""
-    if piece.kind not in ('number', 'index'):
-        return range(0)
-    low, high = RANGES[piece.name]
-    return range(high - low + 1, 1 << piece.width)
+def spare(name):
+    """Raw numbers that fit the bits of a range but lie above it."""
+    low, high = RANGES[name]
+    return range(high - low + 1, 1 << width(name))
 
 
 def flip(rng, family):
@@ -117,10 +115,15 @@ def filling(rng, family):
 
 
 def above(rng, family):
-    sent = random_pieces(rng, family, lambda sent: any(spare(piece) for piece in sent))
-    place = rng.choice(places(sent, spare))
-    raws = spare(sent[place])
-    return family, altered(rng, sent, place, rng.choice((raws[0], raws[-1], rng.choice(raws))))
+    """The range is drawn first, or fields of rare messages would hardly be met."""
+    names = [name for name in RANGES if name not in ('octets', 'count') and spare(name)]
+    name, found = rng.choice(names), []
+    while not found:
+        family = rng.choice(('air', 'ground'))
+        sent = pieces(family, random_value(rng, family))
+        found = places(sent, lambda piece: piece.name == name and piece.kind in ('number', 'index'))
+    raws = spare(name)
+    return family, altered(rng, sent, rng.choice(found), rng.choice((raws[0], raws[0], raws[-1], rng.choice(raws))))
 
 
 def count(rng, family):
@@ -228,7 +231,11 @@ def main():
         assert (made == 'unreadable') == (text == 'refused 17'), line
         expected.append(text)
         met.add(kind)
-    run = subprocess.run(program, input=b''.join(line + b'\n' for _, line in lines), stdout=subprocess.PIPE)
+    try:
+        run = subprocess.run(program, input=b''.join(line + b'\n' for _, line in lines), stdout=subprocess.PIPE)
+    except OSError as error:
+        print(f'cannot run the program: {error}')
+        return 1
     answers = run.stdout.decode('latin-1').split('\n')
     faults = [] if answers.pop() == '' else ['the last answer has no line end']
     if run.returncode:

@@ -125,11 +125,13 @@ check('no interval', refusal(write, 'ground', ('periodic-contract', {})), bits('
 # Minus zero stays.
 minus = report()
 minus['position'] = dict(minus['position'], latitude={'sign': 1, 'degrees': 0, 'minutes': 0, 'tenths': 0})
-check('minus zero', read('air', write('air', ('demand-report', {'report': minus}))), ('demand-report', {'report': minus}))
 
 
 def plain(value):
     return ('demand-report', {'report': value})
+
+
+same('minus zero', 'air', plain(minus), bits('0 0001  0 0  0 0000000  1' + '0' * 48 + '00000001001011' + '0' * 33))
 
 
 def names(count, name=(0,) * 8, request=0):
@@ -168,7 +170,8 @@ for what, family, value, wanted in [
         ('count before entry', 'air', ('noncompliance', ('demand', [9] * 17)), 12),
         ('count before character', 'air', names(17, (200,) * 8), 12),
         ('request type before count', 'air', names(17, request=8), 5),
-        ('presence before interval', 'ground', ('periodic-contract', {'interval': ('seconds', 0), 'extended-profile': 1}), 10)]:
+        ('presence before interval', 'ground',
+         ('periodic-contract', {'interval': ('seconds', 0), 'extended-profile': 1}), 10)]:
     check(what, refusal(write, family, value), wanted)
 
 rng = random.Random(691)

@@ -1,6 +1,7 @@
 -- Lists in arrays: the entries that are counted, and zeros.
 use Prim.Native.Nat.{ℕ, _+_, _-_, _*_}
 use mathlib.Core.Path.{_≡_, refl, ap, _∙_}
+use mathlib.Core.Bool.{Bool, true, false}
 use mathlib.Core.List.{List, _++_}
 use lib.ListN.{length, take, replicate}
 use lib.Seq.{take-at}
@@ -25,13 +26,18 @@ listed m c =
     (λ a. 0)
     (λ p h s. listed-left m c p h)
 
--- entries 0..top, each with an extension bit
+-- an entry of 0..top, with an extension bit where it is marked
+unfoldable pub entryC : Bool → ℕ → Codec ℕ
+entryC true top = ext (num 0 top)
+entryC false top = num 0 top
+
+-- "lists of report type* .., event type* .., report type and period* ..": marked entries of 0..top
 abbrev pub entriesC : ℕ → Codec Listed
-entriesC top = listed 1 (ext (num 0 top))
+entriesC top = listed 1 (entryC true top)
 
 -- "a list of names of eight 7-bit characters"
 abbrev pub namesC : Codec Listed
-namesC = listed 8 (num 0 127)
+namesC = listed 8 (entryC false 127)
 
 -- no list
 abbrev pub noList : Listed

@@ -2,7 +2,7 @@
 use Prim.Native.Nat.{ℕ, zero, suc, _+_, _≤_, _<_, min, max}
 use mathlib.Core.Path.{_≡_, refl, sym, ap, subst, _∙_}
 use mathlib.Core.Bool.{Bool, true, false, cond}
-use mathlib.Core.List.{List, [], _++_, append-nil}
+use mathlib.Core.List.{List, [], _∷_, _++_, append-nil, append-assoc}
 use native.Mathlib.Nat.{add-zero}
 use native.Mathlib.Omega.{arith}
 use lib.Dec.{eqb, ltb, eqb·suc-zero}
@@ -13,7 +13,7 @@ use Rattle.per.specs.Bits.{toBits}
 use Rattle.per.specs.laws.Bits.{length-toBits}
 use Rattle.per.specs.Codec.{Codec, first, upto}
 use Rattle.per.specs.Field.{Field}
-use Rattle.per.specs.Formats.{field, dep, via, only, absent, when, Null, ext, extension, pair, Alt, altCodec, choice, choice-left, index}
+use Rattle.per.specs.Formats.{field, vec, dep, via, only, absent, when, Null, ext, extension, pair, Alt, altCodec, choice, choice-left, index}
 use Rattle.pen.specs.Writing.{putBits, onward, Ink, ink, Writes}
 use Rattle.pen.specs.Inner.{Inked}
 use Rattle.pen.proofs.Puts.{put-past, put-append}
@@ -106,6 +106,53 @@ inks-by c k {s} {p = p} {a = a} {b} x y =
       octets-is = y .octets-is ∙ rw (x .pen-is, x .octets-is) (ap (λ (i : Ink). i .octets) e);
     }
 
+-- where the first is refused, the other writes nothing
+pub inks-first : {A B : Type 0} (c : Codec A) (k : A → Codec B) {s t : List ℕ} {p q : Pen} {a : A} (b : B) (n : ℕ) → c .chk a ≡ suc n → Writes c s p a q t → Writes (dep c k) s p (a, b) q t
+unfolding dep ink
+inks-first c k b n h x = record { pen-is = x .pen-is ∙ rw (h, append-nil); octets-is = x .octets-is ∙ rw (h, append-nil) }
+
+-- ---- one entry more of a list
+upto-nil : (n : ℕ) → upto n [] ≡ []
+upto-nil zero = refl
+upto-nil (suc n) = refl
+
+first-zero : (n : ℕ) → first n 0 ≡ n
+first-zero zero = refl
+first-zero (suc n) = refl
+
+upto-two : (m n : ℕ) (x y z : List Bool) → x ++ upto m (y ++ upto n z) ≡ (x ++ upto m y) ++ upto (first m n) z
+upto-two zero n x y z = sym (append-assoc x y (upto n z))
+upto-two (suc m) n x y z = rw (append-nil, append-nil)
+
+first-two : (l m n : ℕ) → first l (first m n) ≡ first (first l m) n
+first-two zero m n = refl
+first-two (suc l) m n = refl
+
+module _ {A : Type 0} (c : Codec A) (a : A) where
+  vec-bits : (n : ℕ) (l : List A) → length l ≡ n → vec c (suc n) .enc (l ++ (a ∷ [])) ≡ vec c n .enc l ++ upto (vec c n .chk l) (c .enc a)
+  unfolding vec via dep absent
+  vec-bits zero [] h = rw (upto-nil, append-nil)
+  vec-bits zero (x ∷ l) h = absurd (omega arith)
+  vec-bits (suc n) [] h = absurd (omega arith)
+  vec-bits (suc n) (x ∷ l) h = rw (vec-bits n l (omega arith)) (upto-two (c .chk x) (vec c n .chk l) (c .enc x) (vec c n .enc l) (c .enc a))
+
+  vec-chk : (n : ℕ) (l : List A) → length l ≡ n → vec c (suc n) .chk (l ++ (a ∷ [])) ≡ first (vec c n .chk l) (c .chk a)
+  unfolding vec via dep absent
+  vec-chk zero [] h = first-zero (c .chk a)
+  vec-chk zero (x ∷ l) h = absurd (omega arith)
+  vec-chk (suc n) [] h = absurd (omega arith)
+  vec-chk (suc n) (x ∷ l) h = rw (vec-chk n l (omega arith)) (first-two (c .chk x) (vec c n .chk l) (c .chk a))
+
+  more-is : (n : ℕ) (l : List A) (s : List ℕ) (p : Pen) → length l ≡ n → ink (dep (vec c n) (λ i. c)) s p (l, a) ≡ ink (vec c (suc n)) s p (l ++ (a ∷ []))
+  unfolding ink dep
+  more-is n l s p h = rw (vec-bits n l h, vec-chk n l h)
+
+  pub inks-more : (n : ℕ) (l : List A) {s t u : List ℕ} {p q r : Pen} → length l ≡ n → Writes (vec c n) s p l q t → Writes c t q a r u → Writes (vec c (suc n)) s p (l ++ (a ∷ [])) r u
+  inks-more n l {s} {p = p} h x y =
+      let e = more-is n l s p h in
+      let w = inks-by (vec c n) (λ i. c) x y in
+      record { pen-is = w .pen-is ∙ ap (λ (i : Ink). i .pen) e; octets-is = w .octets-is ∙ ap (λ (i : Ink). i .octets) e }
+
 -- the same bits for another type
 pub inks-like : {A B : Type 0} {c : Codec A} (to : A → B) (from : B → A) (ok : B → ℕ)
     (left : (a : A) → c .chk a ≡ 0 → c .norm a ≡ a → (ok (to a) ≡ 0) × (from (to a) ≡ a))
@@ -130,6 +177,11 @@ inks-none z s p a = go (eqb (p .refusal) 0) refl
         subst (λ (q : Pen). Writes (absent z) s p a q s) i (inks-barred (absent z) s p a 0 h refl refl)
     go false e = inks-kept (absent z) s p a (eqb-false (p .refusal) 0 e)
 
+-- an empty list
+pub inks-nil : {A : Type 0} (c : Codec A) {s : List ℕ} {p : Pen} → Writes (vec c 0) s p [] p s
+unfolding vec
+inks-nil c {s} {p} = inks-like (λ u. []) (λ l. record {}) _ _ refl (inks-none (record {}) s p (record {}))
+
 pub inks-absent : {A : Type 0} (c : Codec A) (z : A) (b : Bool) {s : List ℕ} {p : Pen} (a : A) → b ≡ false → Writes (when b z c) s p a p s
 unfolding when
 inks-absent c z b {s} {p} a e = rw e (inks-none z s p a)
@@ -151,10 +203,6 @@ inks-choice top tag alts x y =
     inks-like (λ i. i .1) (λ a. (tag a, a)) (λ a. 0) (λ i g z. (refl, choice-left top tag alts i g)) refl (inks-by (index top) (λ i. alts i .codec) x y)
 
 -- a further judgement
-first-zero : (n : ℕ) → first n 0 ≡ n
-first-zero zero = refl
-first-zero (suc n) = refl
-
 pub inks-only : {A : Type 0} (c : Codec A) (bad : A → ℕ) {s t : List ℕ} {p q : Pen} {a : A} → bad (c .norm a) ≡ 0
     → Writes c s p a q t → Writes (only c bad) s p a q t
 unfolding only ink

@@ -1,15 +1,19 @@
 -- How readings compose: a law for each combinator, with which the proof of a record's reader is the record's codec once more. Assumes nothing.
-use Prim.Native.Nat.{ℕ, zero, suc}
-use mathlib.Core.Path.{_≡_, refl, sym, ap, _∙_}
+use Prim.Native.Nat.{ℕ, zero, suc, _+_, _-_, _≤_}
+use mathlib.Core.Path.{_≡_, refl, sym, ap, subst, _∙_}
 use mathlib.Core.Bool.{Bool, true, false, cond}
-use mathlib.Core.List.{List}
+use mathlib.Core.List.{List, [], _∷_, _++_}
 use native.Mathlib.Omega.{arith}
-use lib.Dec.{eqb, eqb·suc-zero}
-use borrow.Author.Tests.{eq-eqb, ne-eqb, eqb-true, eqb-false}
+use lib.Dec.{eqb, leb, eqb·suc-zero}
+use lib.ListN.{length}
+use borrow.Author.Tests.{eq-eqb, ne-eqb, eqb-true, eqb-false, leb-true}
 use Rattle.per.specs.declared.cursor.Cursor.{Cursor}
 use Rattle.per.specs.declared.cursor.Num.{Num}
-use Rattle.per.specs.Codec.{Codec, place, refuse}
-use Rattle.per.specs.Formats.{dep, via, only, absent, when, Null, ext, extension, pair, Alt, altCodec, choice, choice-left, index}
+use Rattle.per.specs.Codec.{Codec, Out, out, place, refuse}
+use Rattle.per.specs.laws.Codec.{unless-true}
+use Rattle.per.specs.Bits.{numAt}
+use Rattle.per.specs.Field.{Field, settle}
+use Rattle.per.specs.Formats.{field, numField, num, countField, count, vec, dep, via, only, absent, when, Null, ext, extension, pair, Alt, altCodec, choice, choice-left, index}
 use Rattle.per.specs.Pdu.{window}
 use Rattle.per.specs.Reading.{Reads}
 use Rattle.per.specs.Inner.{settled}
@@ -99,6 +103,51 @@ only-settled {c} bad {s} {j} t m r z q = go (eqb (t .next .refusal) 0) refl m re
     go true f zero h = only-good bad r (eqb-true (t .next .refusal) 0 f) (sym q ∙ h)
     go true f (suc k) h = rw (eqb·suc-zero k) (only-bad bad r k (sym z) (eqb-true (t .next .refusal) 0 f) (sym q ∙ h))
     go false f k h = only-kept bad r (eqb-false (t .next .refusal) 0 f)
+
+-- ---- one entry more of a list
+vec-snoc : {A : Type 0} (c : Codec A) (n : ℕ) (bs : List Bool) (j : Cursor)
+    → vec c (suc n) .run bs j ≡ out (vec c n .run bs j .value ++ (c .run bs (vec c n .run bs j .next) .value ∷ [])) (c .run bs (vec c n .run bs j .next) .next)
+unfolding vec via dep absent
+vec-snoc c zero bs j = refl
+vec-snoc {A} c (suc n) bs j = ap (λ (o : Out (List A)). out (c .run bs j .value ∷ o .value) (o .next)) (vec-snoc c n bs (c .run bs j .next))
+
+pub one-more : {A : Type 0} (c : Codec A) (n : ℕ) {s : List ℕ} {j m k : Cursor} {l : List A} {a : A}
+    → Reads (vec c n) s j l m → Reads c s m a k → Reads (vec c (suc n)) s j (l ++ (a ∷ [])) k
+one-more c n {s} {j} p q =
+    let e = vec-snoc c n (window s) j in
+    record { value-is = rw (e, ← p .value-is, ← p .next-is, q .value-is); next-is = rw (e, ← p .next-is) (q .next-is) }
+
+-- as many values as were asked for, read or not
+pub vec-long : {A : Type 0} (c : Codec A) (n : ℕ) (bs : List Bool) (j : Cursor) → length (vec c n .run bs j .value) ≡ n
+unfolding vec via dep absent
+vec-long c zero bs j = refl
+vec-long c (suc n) bs j = ap suc (vec-long c n bs (c .run bs j .next))
+
+-- ---- what holds of the empty value, and of each number that is judged good, holds of what is read
+all-ways : {A : Type 0} (P : A → Type 0) (b d : Bool) (n : ℕ) (a z : A) (at end : ℕ) (j : Cursor) → P z → (n ≡ 0 → P a)
+    → P (cond b (cond d (settle n a z at end) (out z (refuse at 7))) (out z j) .value)
+all-ways P true true zero a z at end j p q = q refl
+all-ways P true true (suc n) a z at end j p q = p
+all-ways P true false n a z at end j p q = p
+all-ways P false d n a z at end j p q = p
+
+pub field-all : {A : Type 0} (P : A → Type 0) (f : Field A) {s : List ℕ} {j n : Cursor} {a : A} → P (f .none) → ((v : ℕ) → f .judge v ≡ 0 → P (f .to v))
+    → Reads (field f) s j a n → P a
+unfolding field
+field-all P f {s} {j} p q r =
+    let v : ℕ = numAt (window s) (j .at) (f .width) in
+    subst P (sym (r .value-is)) (all-ways P (eqb (j .refusal) 0) (leb (f .width) (length (window s) - j .at)) (f .judge v) (f .to v) (f .none) (j .at) (j .at + f .width) j p (q v))
+
+-- a number that was read is at most its highest, a count at most 16
+pub num-most : (lo hi : ℕ) {s : List ℕ} {j n : Cursor} {v : ℕ} → Reads (num lo hi) s j v n → v ≤ hi
+num-most lo hi r = field-all (λ (v : ℕ). v ≤ hi) (numField lo hi) (omega arith) (λ v g. leb-true (lo + v) hi (unless-true (leb (lo + v) hi) 7 g)) r
+
+pub count-most : {s : List ℕ} {j n : Cursor} {v : ℕ} → Reads count s j v n → v ≤ 16
+count-most r = field-all (λ (v : ℕ). v ≤ 16) countField (omega arith) (λ v g. leb-true v 16 (unless-true (leb v 16) 11 g)) r
+
+-- a number that is at least n and is not n is at least n + 1: for the last arm of a match
+pub climb : (k n : ℕ) → n ≤ k → (k ≡ n → ⊥) → suc n ≤ k
+climb k n h e = omega arith
 
 -- ---- how tight the statement is: one value and one cursor
 pub reads-one : {A : Type 0} {c : Codec A} {s : List ℕ} {j n m : Cursor} {a b : A} → Reads c s j a n → Reads c s j b m → (a ≡ b) × (n ≡ m)

@@ -29,7 +29,7 @@ num-if-requires c κs = search needs
 -- src/report.rt:111:1
 returns : tie.Need-returns
 unfolding emergencyReportC
-returns c = 
+returns c =
     like _ _ _ _ (by _ (c .before .before .before .before .before .mask .ensures) (then (c .before .before .before .before .read-fix .ensures) (rw (c .before .before .before .present .ensures) at (c .before .before .num-if .ensures))))
 
 pub read-emergency-report-spec : {M : Type 1} → statement M

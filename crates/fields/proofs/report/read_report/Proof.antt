@@ -34,7 +34,7 @@ num-if-requires c κs = search needs
 -- src/report.rt:85:1
 returns : tie.Need-returns
 unfolding reportC
-returns c = 
+returns c =
     like _ _ _ _ (after-ext (c .before .before .before .before .before .before .extension .ensures) (by _ (c .before .before .before .before .before .mask .ensures)
     (then (c .before .before .before .before .read-fix .ensures) (rw (c .before .before .before .present .ensures) at (c .before .before .num-if .ensures)))))
 

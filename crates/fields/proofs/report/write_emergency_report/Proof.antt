@@ -31,7 +31,7 @@ num-if-requires c κs = search needs
 -- src/report.rt:127:1
 returns : tie.Need-returns
 unfolding emergencyReportC field only
-returns c = 
+returns c =
     inks-like _ _ _ _ refl (inks-by _ _ (c .before .before .before .before .before .mask .ensures) (inks-by _ _ (c .before .before .before .write-fix .ensures) (rw (c .before .present .ensures) at (c .num-if .ensures))))
 
 pub write-emergency-report-spec : {M : Type 1} → statement M

@@ -36,7 +36,7 @@ num-if-requires c κs = search needs
 -- src/report.rt:101:1
 returns : tie.Need-returns
 unfolding reportC field only
-returns c = 
+returns c =
     inks-like _ _ _ _ refl (inks-ext (c .before .before .before .before .before .before .before .extension .ensures) (inks-by _ _ (c .before .before .before .before .before .mask .ensures)
     (inks-by _ _ (c .before .before .before .write-fix .ensures) (rw (c .before .present .ensures) at (c .num-if .ensures)))))
 

@@ -40,7 +40,7 @@ num-if-requires c κs = search needs
 -- src/time.rt:37:1
 returns : tie.Need-returns
 unfolding timeC
-returns c = 
+returns c =
     like _ _ _ _ (then (c .before .before .before .before .before .before .before .num .ensures) (then (c .before .before .before .before .before .before .num2 .ensures) (then (c .before .before .before .before .before .num3 .ensures) (by _ (c .before .before .before .before .flag .ensures)
     (then (c .before .before .before .num4 .ensures) (then (c .before .before .num5 .ensures) (c .before .num-if .ensures)))))))
 

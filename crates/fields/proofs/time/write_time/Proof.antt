@@ -42,7 +42,7 @@ num-if-requires c κs = search needs
 -- src/time.rt:60:1
 returns : tie.Need-returns
 unfolding timeC field
-returns c = 
+returns c =
     inks-like _ _ _ _ refl (inks-by _ _ (c .before .before .before .before .before .before .before .before .before .before .before .before .num .ensures) (inks-by _ _ (c .before .before .before .before .before .before .before .before .before .before .num2 .ensures) (inks-by _ _ (c .before .before .before .before .before .before .before .before .num3 .ensures) (inks-by _ _ (c .before .before .before .before .before .before .flag .ensures)
     (inks-by _ _ (c .before .before .before .before .num4 .ensures) (inks-by _ _ (c .before .before .num5 .ensures) (c .num-if .ensures)))))))
 

@@ -1,0 +1,214 @@
+"""Writes the fixed vectors of the coder: OUTDIR/stdin, one line per PDU, and OUTDIR/stdout, the
+answers due (the lines are described in compare_coder.py).
+
+    coder_vectors.py OUTDIR
+
+The examples of page 01 and of the decided open points stand here as literals, and percoder must
+agree with them; the rest is walked out of percoder's table.
+"""
+
+import collections
+import itertools
+import os
+import sys
+
+from percoder import DEFAULTS, NEEDS_ONE, NOT_CARRIED, RANGES, TABLE, answer, pack, pieces, write
+
+P13 = '08' + '00' * 7 + '012c' + '00' * 4
+
+LITERALS = [
+    # 01, bench examples
+    ('air 00', 'ok 00'),                    # P1
+    ('ground 74', 'ok 74'),                 # P2
+    ('air 4200', 'ok 4200'),                # P3
+    ('ground 14', 'ok 14'),                 # P4
+    ('air 3880', 'ok 3880'),                # P5
+    ('air 2130', 'ok 2130'),                # P6
+    ('ground 5840', 'ok 5840'),             # P7
+    ('ground 3000', 'ok 3000'),             # P8
+    ('ground 4080', 'ok 4080'),             # P9
+    ('ground 640400', 'ok 640400'),         # P10
+    ('ground 640420', 'refused 11'),        # P11
+    ('air', 'refused 7'),                   # P12
+    ('ground', 'refused 7'),
+    ('air ' + P13, 'ok ' + P13),            # P13
+    ('ground 7500', 'refused 14'),          # others
+    ('ground 15', 'refused 13'),
+    # Open points on reading
+    ('air 281100', 'refused 12'),           # 1: a count over 16, the long form too
+    ('air 288880', 'refused 12'),
+    ('air 0840', 'refused 10'),             # 2: presence bits are one field
+    ('ground 42', 'refused 7'),
+    ('air 3c', 'refused 9'),                # 3: extension bit before what follows
+    ('air 48', 'refused 8'),                # 4: index before content
+    ('ground 660420', 'refused 11'),        # 5: 11 right after the interval
+    ('ground 640421', 'refused 11'),        # 6: and before 13, 14
+    ('ground 64042000', 'refused 11'),
+    ('ground 1500', 'refused 13'),          # 7: 13 before 14
+    ('air ' + 'ff' * 129, 'refused 16'),    # 8: 16 before all
+    ('ground ' + '00' * 129, 'refused 16'),
+    ('air ' + 'ff' * 128, 'refused 9'),
+    ('ground ' + '00' * 128, 'refused 14'),
+    ('air 280233', 'ok 280233'),            # 16: two equal entries
+    ('air 28035100', 'ok 28035100'),        #     entries in any order: 5, 1, 0
+    ('air 18c0', 'refused 8'),              # 17: event type 12; request type 7 reads
+    ('air 3b80', 'ok 3b80'),
+    # An event contract with no element, and 7 before 15
+    ('ground 4000', 'refused 15'),
+    ('ground 4000ff', 'refused 15'),
+    ('ground 40', 'refused 7'),
+    # The longest readable line; the PDU is then over-long
+    ('air ' + '00' * 2046, 'refused 16'),
+    ('ground ' + '00' * 2044, 'refused 16'),
+]
+
+UNREADABLE = [
+    # other words, nothing, no space, not the word alone
+    b'', b' ', b'00', b'a', b'airs 00', b'ai 00', b'groun 74', b'data 00', b'req 3000', b'end-cnf', b'air00', b'ground74',
+    # upper case, odd digits, no digits
+    b'AIR 00', b'Air 00', b'GROUND 74', b'ground 3B80', b'air 3B80', b'air 3bFF', b'air 0', b'ground 140',
+    b'air 0x00', b'air -0', b'air +0', b'air 0g', b'air gg', b'air 00,',
+    # spaces, tabs, CR, NUL
+    b'air ', b'ground ', b'air 4200 ', b'air  00', b'ground  74', b' air 00', b'air 42 00', b'air 00 ground 74',
+    b'\t', b'air\t00', b'air 00\t', b'\r', b'air 00\r', b'air\r', b'ground\r', b'\0', b'air 00\0', b'air\0', b'air \0\0',
+    # octets above 127; digits that are not ASCII
+    b'\xff', b'air \x80\x80', b'air\xa000', b'\xe1ir 00', b'ground 74\xff',
+    b'air \xd9\xa0\xd9\xa0', b'ground \xef\xbc\x91\xef\xbc\x94',
+    # over 4,096 octets, and words of that length
+    b'air ' + b'00' * 2047, b'ground ' + b'00' * 2045, b'air ' + b'0' * 4093, b'x' * 4096, b'x' * 4097, b'0' * 9000,
+]
+
+
+def middle(name):
+    """A number whose raw bits are mixed, so that a misplaced field shows."""
+    low, high = RANGES[name]
+    return low + (high - low) * 5 // 7
+
+
+def shapes(form):
+    """Values with middle numbers: every alternative, parts all there, each alone and absent,
+    lists of 1, 0, 15 and 16 entries. The fullest comes first."""
+    form = form.rstrip('*')
+    if form == 'null':
+        return [None]
+    if form in RANGES:
+        return [middle(form)]
+    kind, *parts = TABLE[form]
+    if kind == 'choice':
+        return [(name, value) for name, content in parts[1] for value in shapes(content)]
+    if kind == 'list':
+        return [shapes(parts[0]) * count for count in (1, 0, 15, 16)]
+    if kind == 'eight':
+        return [tuple(middle(parts[0]) + place for place in range(8))]
+    optional, required = parts
+    optional = [(name, shapes(content)) for name, content in optional if content != NOT_CARRIED]
+    base = [dict(zip([name for name, _ in required], values))
+            for values in itertools.product(*(shapes(content) for _, content in required))]
+    full = {name: values[0] for name, values in optional}
+    parts = [full] + [{name: value} for name, values in optional for value in values]
+    if form not in NEEDS_ONE:
+        parts.append({})
+    return [{**need, **may} for may in parts for need in base]
+
+
+def numbers(seen, family, value):
+    """Every field of a message once: lowest, highest, and one above (8) where the bits hold it."""
+    sent, nth = pieces(family, value), collections.Counter()
+    for place, piece in enumerate(sent):
+        if piece.kind not in ('number', 'index'):
+            continue
+        nth[piece.name] += 1
+        key = (family, value[0], piece.name, nth[piece.name])
+        if key in seen:
+            continue
+        seen.add(key)
+        low, high = RANGES[piece.name]
+        if piece.kind == 'number':                              # another index is another shape
+            yield replaced(sent, place, 0), 'ok'
+            yield replaced(sent, place, high - low), 'ok'
+        if high - low + 1 < 1 << piece.width:
+            yield replaced(sent, place, high - low + 1), 'refused 8'
+
+
+def replaced(sent, place, raw):
+    return pack(sent[:place] + [sent[place]._replace(sent=raw)] + sent[place + 1:])
+
+
+def edges(family, value):
+    """Bits no value sends: extension bits, elements not carried, long lists, filling; cuts; more octets."""
+    sent = pieces(family, value)
+    octets = pack(sent)
+    bits = sum(piece.width for piece in sent)
+    end = 0
+    for place, piece in enumerate(sent):
+        end += piece.width
+        if piece.kind == 'extension':
+            yield replaced(sent, place, 1)
+            yield replaced(sent, place, 1)[:(end + 7) // 8]     # the input ends with its octet
+        if piece.kind == 'presence':
+            for bit in range(piece.width):
+                if TABLE[piece.name][1][piece.width - 1 - bit][1] == NOT_CARRIED:
+                    yield replaced(sent, place, piece.sent | 1 << bit)
+        if piece.kind == 'count':
+            yield from (replaced(sent, place, raw) for raw in (17, 127, 128, 255))
+            if piece.sent == 16:                                # seventeen whole entries
+                entry = sent[place + 1:place + 1 + len(sent[place + 1:]) // 16]
+                yield replaced(sent + entry, place, 17)
+    for bit in range(-bits % 8):
+        yield octets[:-1] + bytes([octets[-1] | 1 << bit])
+    yield from (octets[:size] for size in range(len(octets)))
+    yield from (octets + more for more in (b'\0', b'\x80', b'\xff\xff'))
+
+
+def defaults():
+    """The default interval sent, with every other part of the contract there or not."""
+    for (form, name), (_, number) in DEFAULTS.items():
+        for value in shapes(form):
+            sent = pieces('ground', (form, dict(value, **{name: ('minutes', number + 1)})))
+            place, = [place for place, piece in enumerate(sent) if piece.name == 'interval-minutes']
+            octets = replaced(sent, place, number - RANGES['interval-minutes'][0])
+            yield from (octets, octets[:3], octets + b'\0')    # the interval ends in the third octet
+
+
+def walked():
+    """(family, octets, how the answer begins)"""
+    seen, whole = set(), set()
+    for family in ('air', 'ground'):
+        for value in shapes(family):
+            yield family, write(family, value), 'ok'
+            for octets, wanted in numbers(seen, family, value):
+                yield family, octets, wanted
+            if (family, value[0]) not in whole or any(piece.kind == 'count' for piece in pieces(family, value)):
+                whole.add((family, value[0]))
+                for octets in edges(family, value):
+                    yield family, octets, 'refused'
+    for octets in defaults():
+        yield 'ground', octets, 'refused 11'
+
+
+def main():
+    if len(sys.argv) != 2:
+        sys.exit('usage: coder_vectors.py OUTDIR')
+    lines = {}
+    for line, wanted in LITERALS:
+        assert answer(line.encode())[0] == wanted, line
+        lines[line.encode()] = wanted
+    for line in UNREADABLE:
+        assert answer(line)[0] == 'refused 17', line
+        lines[line] = 'refused 17'
+    for family, octets, wanted in walked():
+        line = (f'{family} {octets.hex()}' if octets else family).encode()
+        lines[line] = answer(line)[0]
+        assert lines[line].startswith(wanted), (line, lines[line], wanted)
+    tally = collections.Counter(lines.values())
+    assert all(tally[f'refused {number}'] >= 2 for number in range(7, 18)), tally
+    os.makedirs(sys.argv[1], exist_ok=True)
+    with open(os.path.join(sys.argv[1], 'stdin'), 'wb') as file:
+        file.write(b''.join(line + b'\n' for line in lines))
+    with open(os.path.join(sys.argv[1], 'stdout'), 'w', newline='\n') as file:
+        file.write(''.join(text + '\n' for text in lines.values()))
+    print(f'{len(lines)} vectors')
+
+
+if __name__ == '__main__':
+    main()
