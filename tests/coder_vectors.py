@@ -64,13 +64,13 @@ LITERALS = [
 
 UNREADABLE = [
     # other words, nothing, no space, not the word alone
-    b'', b' ', b'00', b'a', b'airs 00', b'ai 00', b'groun 74', b'data 00', b'req 3000', b'end-cnf', b'air00', b'ground74',
+    b'', b' ', b'00', b'a', b'airs 00', b'ai 00', b'groun 74', b'data 00', b'req 3000', b'end-cnf', b'air00',
     # upper case, odd digits, no digits
     b'AIR 00', b'Air 00', b'GROUND 74', b'ground 3B80', b'air 3B80', b'air 3bFF', b'air 0', b'ground 140',
     b'air 0x00', b'air -0', b'air +0', b'air 0g', b'air gg', b'air 00,',
     # spaces, tabs, CR, NUL
     b'air ', b'ground ', b'air 4200 ', b'air  00', b'ground  74', b' air 00', b'air 42 00', b'air 00 ground 74',
-    b'\t', b'air\t00', b'air 00\t', b'\r', b'air 00\r', b'air\r', b'ground\r', b'\0', b'air 00\0', b'air\0', b'air \0\0',
+    b'\t', b'air\t00', b'air 00\t', b'\r', b'air 00\r', b'air\r', b'ground\r', b'\0', b'air 00\0', b'air\0',
     # octets above 127; digits that are not ASCII
     b'\xff', b'air \x80\x80', b'air\xa000', b'\xe1ir 00', b'ground 74\xff',
     b'air \xd9\xa0\xd9\xa0', b'ground \xef\xbc\x91\xef\xbc\x94',

@@ -1,10 +1,9 @@
 -- The message table of 01, the parts of reports: 01's line stands above each definition.
-use Prim.Native.Nat.{ℕ, _/_, _%_}
+use Prim.Native.Nat.{ℕ}
 use mathlib.Core.Path.{refl}
-use mathlib.Core.Bool.{Bool, false}
-use lib.Dec.{eqb}
+use mathlib.Core.Bool.{false}
 use Rattle.per.specs.Codec.{Codec}
-use Rattle.per.specs.Formats.{dep, pair, iso, when, num, flag, ext, signed, mask}
+use Rattle.per.specs.Formats.{dep, pair, iso, when, num, flag, ext, signed, mask, has}
 use Rattle.fields.specs.declared.position.Angle.{Angle}
 use Rattle.fields.specs.declared.position.Position.{Position}
 use Rattle.fields.specs.declared.time.Time.{Time}
@@ -61,10 +60,6 @@ fixC =
     (λ p. record { position = p .0; time = p .1 .0; merit = p .1 .1 })
     (λ a. (a .position, (a .time, a .merit)))
     (λ p. refl)
-
--- the presence bit of weight w
-unfoldable pub has : ℕ → ℕ → Bool
-has w v = eqb (v / w % 2) 1
 
 -- "the address, 24 bits", where its presence bit of weight w is set
 abbrev pub address : ℕ → ℕ → Codec ℕ

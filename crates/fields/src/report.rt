@@ -10,11 +10,10 @@ use crate::time::write_merit;
 use crate::time::write_time;
 use pen::Pen;
 use per::cursor::Cursor;
-ghost use mathlib.Core.Path.{_≡_};
-ghost use Prim.Native.Nat.{_<_};
+use per::cursor::present;
 ghost use Rattle.per.specs.Reading.{Reads};
 ghost use Rattle.pen.specs.Writing.{Writes};
-ghost use Rattle.fields.specs.Table.{has, fixC, reportC, emergencyReportC};
+ghost use Rattle.fields.specs.Table.{fixC, reportC, emergencyReportC};
 
 // What every report has.
 pub struct Fix {
@@ -49,14 +48,6 @@ pub struct ReportRead {
 pub struct EmergencyReportRead {
     pub value: EmergencyReport,
     pub next: Cursor,
-}
-
-// A presence bit of weight w.
-fn present(v: u32, w: u32) -> bool
-    requires { ⌜ 0 < w ⌝ }
-    ensures { λ r. ⌜ r ≡ has w v ⌝ }
-{
-    v / w % 2 == 1
 }
 
 fn read_fix(c: Cursor, s: &[u8]) -> FixRead

@@ -14,7 +14,7 @@ use Rattle.per.specs.laws.Bits.{length-toBits}
 use Rattle.per.specs.Codec.{Codec, first, upto}
 use Rattle.per.specs.Field.{Field}
 use Rattle.per.specs.Formats.{field, vec, dep, via, only, absent, when, Null, ext, extension, pair, Alt, altCodec, choice, choice-left, index}
-use Rattle.pen.specs.Writing.{putBits, onward, Ink, ink, Writes}
+use Rattle.pen.specs.Writing.{putBits, onward, barred, Ink, ink, Writes}
 use Rattle.pen.specs.Inner.{Inked}
 use Rattle.pen.proofs.Puts.{put-past, put-append}
 
@@ -159,6 +159,16 @@ pub inks-like : {A B : Type 0} {c : Codec A} (to : A → B) (from : B → A) (ok
     {s t : List ℕ} {p q : Pen} {b : B} → ok b ≡ 0 → Writes c s p (from b) q t → Writes (via c to from ok left) s p b q t
 unfolding via ink
 inks-like to from ok left e x = record { pen-is = rw e (x .pen-is); octets-is = rw e (x .octets-is) }
+
+pub like-barred : {A B : Type 0} (c : Codec A) (to : A → B) (from : B → A) (ok : B → ℕ)
+    (left : (a : A) → c .chk a ≡ 0 → c .norm a ≡ a → (ok (to a) ≡ 0) × (from (to a) ≡ a))
+    {s : List ℕ} {p q : Pen} {b : B} (k : ℕ) → ok b ≡ suc k → q ≡ barred p (suc k) → Writes (via c to from ok left) s p b q s
+unfolding via barred
+like-barred c to from ok left {s} {p} {q} {b} k e h = go (eqb (p .refusal) 0) refl h
+  where
+    go : (t : Bool) → eqb (p .refusal) 0 ≡ t → q ≡ cond t (record { at = p .at; refusal = suc k }) p → Writes (via c to from ok left) s p b q s
+    go true t g = rw g (inks-barred (via c to from ok left) s p b (suc k) (eqb-true (p .refusal) 0 t) (rw e) (rw e))
+    go false t g = rw g (inks-kept (via c to from ok left) s p b (eqb-false (p .refusal) 0 t))
 
 -- an optional part
 pub inks-there : {A : Type 0} (c : Codec A) (z : A) (b : Bool) {s t : List ℕ} {p q : Pen} {a : A} → b ≡ true → Writes c s p a q t → Writes (when b z c) s p a q t

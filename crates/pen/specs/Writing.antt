@@ -60,6 +60,10 @@ deliver p s o =
     let n = octetsFor (p .at) in
     delivered (first (p .refusal) (unless (leb n (length s) && leb n (length o)) 6)) (take n s) o
 
+-- the pen with the refusal n, unless it has one
+unfoldable pub barred : Pen → ℕ → Pen
+barred p n = cond (eqb (p .refusal) 0) (record { at = p .at; refusal = n }) p
+
 -- the pen and the octets after a write
 pub record Ink : Type 0 where
   pub pen : Pen

@@ -12,7 +12,7 @@ ghost use mathlib.Core.List.{_++_};
 ghost use lib.ListN.{length, take, drop};
 ghost use Rattle.per.specs.Bits.{ofBit};
 ghost use Rattle.per.specs.Formats.{run, num, flag, extension, signed, mask, index, count, when};
-ghost use Rattle.pen.specs.Writing.{onward, Writes, Delivers};
+ghost use Rattle.pen.specs.Writing.{onward, barred, Writes, Delivers};
 ghost use Rattle.pen.specs.Inner.{Inked, Raised};
 
 // Where writing stands, and the first refusal it met (0: none).
@@ -80,6 +80,19 @@ impl Pen {
         ensures { λ r. ⌜ r ≡ record { at = 0; refusal = 0 } ⌝ }
     {
         Self { at: 0, refusal: 0 }
+    }
+
+    // A refusal that is not a field's.
+    pub fn refuse(self, n: u8) -> Pen
+        ensures { λ r. ⌜ r ≡ barred self n ⌝ }
+    {
+        if self.refusal != 0 {
+            return self;
+        }
+        Pen {
+            at: self.at,
+            refusal: n,
+        }
     }
 
     // The w lowest bits of v, by a pen that holds no refusal.

@@ -214,6 +214,10 @@ signed k hi = field (signedField k hi)
 abbrev pub maskBad : ℕ → Bool → ℕ → ℕ
 maskBad carried need v = first (unless (eqb (bitAnd v carried) v) 10) (unless (not (need && eqb v 0)) 15)
 
+-- a presence bit of weight w is set
+unfoldable pub has : ℕ → ℕ → Bool
+has w v = not (eqb (bitAnd v w) 0)
+
 abbrev pub mask : ℕ → ℕ → Bool → Codec ℕ
 mask all carried need = only (num 0 all) (maskBad carried need)
 

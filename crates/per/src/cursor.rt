@@ -8,7 +8,7 @@ ghost use mathlib.Core.Bool.{not};
 ghost use Prim.Native.Nat.{_+_, _-_};
 ghost use lib.Dec.{eqb, leb};
 ghost use Rattle.per.specs.Codec.{unless};
-ghost use Rattle.per.specs.Formats.{run, num, flag, extension, signed, mask, maskBad, index, count, when};
+ghost use Rattle.per.specs.Formats.{run, num, flag, extension, signed, mask, maskBad, has, index, count, when};
 ghost use Rattle.per.specs.Pdu.{window, start, ending, finish};
 ghost use Rattle.per.specs.Reading.{Reads};
 ghost use Rattle.per.specs.Inner.{settled};
@@ -82,6 +82,13 @@ pub fn mask_bad(v: u32, carried: u32, need: bool) -> u8
         }
     }
     0
+}
+
+// A presence bit of weight w is set.
+pub fn present(v: u32, w: u32) -> bool
+    ensures { λ r. ⌜ r ≡ has w v ⌝ }
+{
+    v & w != 0
 }
 
 // 13 where the filling is not zero, 14 where octets follow the PDU.

@@ -6,9 +6,6 @@ use Rattle.fields.specs.Inner.{Filled}
 use Rattle.fields.proofs.Lists.{filled-none, filled-more}
 use Rattle.fields.proofs.list.read_items.Statement.{statement}
 use Rattle.fields.proofs.list.read_items.Tie as tie
-use Rattle.fields.proofs.list.read_items.Reads as reads
-use Rattle.fields.proofs.list.read_items.Lts as lts
-use Rattle.fields.proofs.list.read_entry.Reads as read-entry-reads
 
 abbrev Inv-loop : tie.InvT-loop
 Inv-loop s n top marked items₀ next₀ i₀ items next i = (i ≤ n) × (Filled (entryC marked top) i s next₀ items next)
@@ -16,35 +13,27 @@ Inv-loop s n top marked items₀ next₀ i₀ items next i = (i ≤ n) × (Fille
 abbrev μ-loop : tie.MeasureT-loop
 μ-loop s n top marked items₀ next₀ i₀ items next i = n - i
 
--- src/list.rt:55:5
 loop-holds : tie.Need-loop-holds Inv-loop μ-loop
 loop-holds c = (omega arith, filled-none _ _ _)
 
--- src/list.rt:56:13
 read-entry-requires : tie.Need-read-entry-requires Inv-loop μ-loop
 read-entry-requires c κs = tt
 
--- src/list.rt:57:20
 cast-items : tie.Need-cast-items Inv-loop μ-loop
 cast-items c = omega (arith, c .before .read-entry .ensures .1)
 
--- src/list.rt:57:9
 array-write-items : tie.Need-array-write-items Inv-loop μ-loop
 array-write-items c = omega arith
 
--- src/list.rt:59:13
 add-i : tie.Need-add-i Inv-loop μ-loop
 add-i c = omega arith
 
--- src/list.rt:55:5
 loop-less : tie.Need-loop-less Inv-loop μ-loop
 loop-less c = omega arith
 
--- src/list.rt:55:5
 loop-again : tie.Need-loop-again Inv-loop μ-loop
 loop-again c = (omega arith, filled-more _ _ (omega arith) (c .before .before .before .before .loop .inv .1) (c .before .before .read-entry .ensures .0))
 
--- src/list.rt:48:1
 returns : tie.Need-returns Inv-loop μ-loop
 returns c = let e : c .before .loop .i ≡ c .before .before .before .args .n = omega arith in rw (← e) (c .before .loop .inv .1)
 

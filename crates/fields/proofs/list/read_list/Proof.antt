@@ -4,28 +4,19 @@ use Rattle.fields.proofs.Lists.{few, listed-reads}
 use borrow.Author.Needs.{needs}
 use Rattle.fields.proofs.list.read_list.Statement.{statement}
 use Rattle.fields.proofs.list.read_list.Tie as tie
-use Rattle.fields.proofs.list.read_list.Reads as reads
-use Rattle.fields.proofs.list.read_list.Lts as lts
-use Rattle.fields.proofs.list.read_items.Reads as read-items-reads
-use Rattle.per.proofs.cursor.Cursor.count.Reads as count-reads
 
--- src/list.rt:83:9
 count-requires : tie.Need-count-requires
 count-requires c κs = search needs
 
--- src/list.rt:85:35
 cast-read-items : tie.Need-cast-read-items
 cast-read-items c = search needs
 
--- src/list.rt:85:35
 mul-read-items : tie.Need-mul-read-items
 mul-read-items c = omega (arith, few (c .count .result .value) (c .before .before .args .m) (count-most (c .count .ensures)) (omega arith))
 
--- src/list.rt:85:9
 read-items-requires : tie.Need-read-items-requires
 read-items-requires c κs = few (c .count .result .value) (c .before .before .args .m) (count-most (c .count .ensures)) (omega arith)
 
--- src/list.rt:79:1
 returns : tie.Need-returns
 returns c = listed-reads _ _ (c .before .before .before .count .ensures) (c .before .before .read-items .ensures)
 

@@ -2,28 +2,19 @@ use Rattle.fields.proofs.Lists.{entry-marked-inks, entry-plain-inks}
 use borrow.Author.Needs.{needs}
 use Rattle.fields.proofs.list.write_entry.Statement.{statement}
 use Rattle.fields.proofs.list.write_entry.Tie as tie
-use Rattle.fields.proofs.list.write_entry.Reads as reads
-use Rattle.fields.proofs.list.write_entry.Lts as lts
-use Rattle.pen.proofs.Pen.extension.Reads as extension-reads
-use Rattle.pen.proofs.Pen.num.Reads as num-reads
 
--- src/list.rt:42:13
 extension-requires : tie.Need-extension-requires
 extension-requires c κs = search needs
 
--- src/list.rt:43:9
 num-requires : tie.Need-num-requires
 num-requires c κs = search needs
 
--- src/list.rt:43:9
 returns : tie.Need-returns
 returns c = entry-marked-inks _ _ (c .before .before .before .before .if1 .taken) (c .before .before .extension .ensures) (c .num .ensures)
 
--- src/list.rt:45:5
 num-requires-2 : tie.Need-num-requires-2
 num-requires-2 c κs = search needs
 
--- src/list.rt:38:1
 returns-2 : tie.Need-returns-2
 returns-2 c = entry-plain-inks _ _ (c .before .before .if1 .left) (c .num2 .ensures)
 

@@ -10,9 +10,6 @@ use Rattle.fields.proofs.Lists.{items-more}
 use Rattle.pen.proofs.Inks.{inks-nil}
 use Rattle.fields.proofs.list.write_items.Statement.{statement}
 use Rattle.fields.proofs.list.write_items.Tie as tie
-use Rattle.fields.proofs.list.write_items.Reads as reads
-use Rattle.fields.proofs.list.write_items.Lts as lts
-use Rattle.fields.proofs.list.write_entry.Reads as write-entry-reads
 
 abbrev Inv-loop : tie.InvT-loop
 Inv-loop out₀ n top marked items next₀ i₀ out next i = (i ≤ n) × (Writes (vec (entryC marked top) i) out₀ next₀ (take i items) next out)
@@ -23,35 +20,27 @@ abbrev μ-loop : tie.MeasureT-loop
 size : (c : tie.Start Inv-loop μ-loop) → length (c .args .t3) ≡ 128
 size c = search needs
 
--- src/list.rt:70:5
 loop-holds : tie.Need-loop-holds Inv-loop μ-loop
 loop-holds c = (omega arith, inks-nil _)
 
--- src/list.rt:71:17
 array-read-v : tie.Need-array-read-v Inv-loop μ-loop
 array-read-v c = omega arith
 
--- src/list.rt:72:39
 cast-write-entry : tie.Need-cast-write-entry Inv-loop μ-loop
 cast-write-entry c = search needs
 
--- src/list.rt:72:9
 write-entry-requires : tie.Need-write-entry-requires Inv-loop μ-loop
 write-entry-requires c κs = tt
 
--- src/list.rt:73:13
 add-i : tie.Need-add-i Inv-loop μ-loop
 add-i c = omega arith
 
--- src/list.rt:70:5
 loop-less : tie.Need-loop-less Inv-loop μ-loop
 loop-less c = omega arith
 
--- src/list.rt:70:5
 loop-again : tie.Need-loop-again Inv-loop μ-loop
 loop-again c = (omega arith, items-more _ _ _ (omega (arith, size (c .before .before .before .before))) (c .before .before .before .loop .inv .1) (c .write-entry .ensures))
 
--- src/list.rt:64:1
 returns : tie.Need-returns Inv-loop μ-loop
 returns c = let e : c .before .loop .i ≡ c .before .before .args .n = omega arith in rw (← e) (c .before .loop .inv .1)
 

@@ -3,32 +3,22 @@ use Rattle.fields.proofs.Lists.{few, listed-barred, listed-inks}
 use borrow.Author.Needs.{needs}
 use Rattle.fields.proofs.list.write_list.Statement.{statement}
 use Rattle.fields.proofs.list.write_list.Tie as tie
-use Rattle.fields.proofs.list.write_list.Reads as reads
-use Rattle.fields.proofs.list.write_list.Lts as lts
-use Rattle.fields.proofs.list.write_items.Reads as write-items-reads
-use Rattle.pen.proofs.Pen.count.Reads as count-reads
 
--- src/list.rt:98:9
 count-requires : tie.Need-count-requires
 count-requires c κs = search needs
 
--- src/list.rt:100:9
 returns : tie.Need-returns
 returns c = listed-barred _ _ (c .if1 .taken) (c .before .count .ensures)
 
--- src/list.rt:102:32
 cast-write-items : tie.Need-cast-write-items
 cast-write-items c = search needs
 
--- src/list.rt:102:32
 mul-write-items : tie.Need-mul-write-items
 mul-write-items c = omega (arith, few (c .before .before .before .before .before .args .a .count) (c .before .before .before .before .before .args .m) (omega arith) (omega arith))
 
--- src/list.rt:102:5
 write-items-requires : tie.Need-write-items-requires
 write-items-requires c κs = few (c .before .before .before .before .before .args .a .count) (c .before .before .before .before .before .args .m) (omega arith) (omega arith)
 
--- src/list.rt:92:1
 returns-2 : tie.Need-returns-2
 returns-2 c = listed-inks _ _ (c .before .before .before .count .ensures) (c .write-items .ensures)
 

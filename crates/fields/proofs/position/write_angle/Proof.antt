@@ -5,28 +5,19 @@ use Rattle.fields.specs.Table.{angleC}
 use borrow.Author.Needs.{needs}
 use Rattle.fields.proofs.position.write_angle.Statement.{statement}
 use Rattle.fields.proofs.position.write_angle.Tie as tie
-use Rattle.fields.proofs.position.write_angle.Reads as reads
-use Rattle.fields.proofs.position.write_angle.Lts as lts
-use Rattle.pen.proofs.Pen.flag.Reads as flag-reads
-use Rattle.pen.proofs.Pen.num.Reads as num-reads
 
--- src/position.rt:53:9
 flag-requires : tie.Need-flag-requires
 flag-requires c κs = search needs
 
--- src/position.rt:54:9
 num-requires : tie.Need-num-requires
 num-requires c κs = search needs
 
--- src/position.rt:55:9
 num-requires-2 : tie.Need-num-requires-2
 num-requires-2 c κs = search needs
 
--- src/position.rt:56:5
 num-requires-3 : tie.Need-num-requires-3
 num-requires-3 c κs = search needs
 
--- src/position.rt:50:1
 returns : tie.Need-returns
 unfolding angleC field
 returns c = inks-like _ _ _ _ refl (inks-by _ _ (c .before .before .before .before .before .before .flag .ensures) (inks-by _ _ (c .before .before .before .before .num .ensures) (inks-by _ _ (c .before .before .num2 .ensures) (c .num3 .ensures))))

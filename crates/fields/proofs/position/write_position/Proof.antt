@@ -4,24 +4,16 @@ use Rattle.fields.specs.Table.{positionC}
 use borrow.Author.Needs.{needs}
 use Rattle.fields.proofs.position.write_position.Statement.{statement}
 use Rattle.fields.proofs.position.write_position.Tie as tie
-use Rattle.fields.proofs.position.write_position.Reads as reads
-use Rattle.fields.proofs.position.write_position.Lts as lts
-use Rattle.fields.proofs.position.write_angle.Reads as write-angle-reads
-use Rattle.pen.proofs.Pen.signed.Reads as signed-reads
 
--- src/position.rt:83:9
 write-angle-requires : tie.Need-write-angle-requires
 write-angle-requires c κs = search needs
 
--- src/position.rt:84:9
 write-angle-requires-2 : tie.Need-write-angle-requires-2
 write-angle-requires-2 c κs = search needs
 
--- src/position.rt:85:5
 signed-requires : tie.Need-signed-requires
 signed-requires c κs = search needs
 
--- src/position.rt:77:1
 returns : tie.Need-returns
 unfolding positionC
 returns c = inks-like _ _ _ _ refl (inks-by _ _ (c .before .before .before .before .write-angle .ensures) (inks-by _ _ (c .before .before .write-angle2 .ensures) (c .signed .ensures)))

@@ -3,30 +3,19 @@ use Rattle.fields.specs.Table.{emergencyReportC}
 use borrow.Author.Needs.{needs}
 use Rattle.fields.proofs.report.read_emergency_report.Statement.{statement}
 use Rattle.fields.proofs.report.read_emergency_report.Tie as tie
-use Rattle.fields.proofs.report.read_emergency_report.Reads as reads
-use Rattle.fields.proofs.report.read_emergency_report.Lts as lts
-use Rattle.fields.proofs.report.present.Reads as present-reads
-use Rattle.fields.proofs.report.read_fix.Reads as read-fix-reads
-use Rattle.per.proofs.cursor.Cursor.mask.Reads as mask-reads
-use Rattle.per.proofs.cursor.Cursor.num_if.Reads as num-if-reads
 
--- src/report.rt:114:9
 mask-requires : tie.Need-mask-requires
 mask-requires c κs = search needs
 
--- src/report.rt:115:9
 read-fix-requires : tie.Need-read-fix-requires
 read-fix-requires c κs = search needs
 
--- src/report.rt:116:40
 present-requires : tie.Need-present-requires
 present-requires c κs = search needs
 
--- src/report.rt:116:9
 num-if-requires : tie.Need-num-if-requires
 num-if-requires c κs = search needs
 
--- src/report.rt:111:1
 returns : tie.Need-returns
 unfolding emergencyReportC
 returns c =

@@ -5,30 +5,19 @@ use Rattle.fields.specs.Table.{emergencyReportC}
 use borrow.Author.Needs.{needs}
 use Rattle.fields.proofs.report.write_emergency_report.Statement.{statement}
 use Rattle.fields.proofs.report.write_emergency_report.Tie as tie
-use Rattle.fields.proofs.report.write_emergency_report.Reads as reads
-use Rattle.fields.proofs.report.write_emergency_report.Lts as lts
-use Rattle.fields.proofs.report.present.Reads as present-reads
-use Rattle.fields.proofs.report.write_fix.Reads as write-fix-reads
-use Rattle.pen.proofs.Pen.mask.Reads as mask-reads
-use Rattle.pen.proofs.Pen.num_if.Reads as num-if-reads
 
--- src/report.rt:131:9
 mask-requires : tie.Need-mask-requires
 mask-requires c κs = search needs
 
--- src/report.rt:132:9
 write-fix-requires : tie.Need-write-fix-requires
 write-fix-requires c κs = search needs
 
--- src/report.rt:133:19
 present-requires : tie.Need-present-requires
 present-requires c κs = search needs
 
--- src/report.rt:133:5
 num-if-requires : tie.Need-num-if-requires
 num-if-requires c κs = search needs
 
--- src/report.rt:127:1
 returns : tie.Need-returns
 unfolding emergencyReportC field only
 returns c =

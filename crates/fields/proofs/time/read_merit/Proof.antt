@@ -3,24 +3,16 @@ use Rattle.fields.specs.Table.{meritC}
 use borrow.Author.Needs.{needs}
 use Rattle.fields.proofs.time.read_merit.Statement.{statement}
 use Rattle.fields.proofs.time.read_merit.Tie as tie
-use Rattle.fields.proofs.time.read_merit.Reads as reads
-use Rattle.fields.proofs.time.read_merit.Lts as lts
-use Rattle.per.proofs.cursor.Cursor.flag.Reads as flag-reads
-use Rattle.per.proofs.cursor.Cursor.num.Reads as num-reads
 
--- src/time.rt:75:9
 num-requires : tie.Need-num-requires
 num-requires c κs = search needs
 
--- src/time.rt:76:9
 flag-requires : tie.Need-flag-requires
 flag-requires c κs = search needs
 
--- src/time.rt:77:9
 flag-requires-2 : tie.Need-flag-requires-2
 flag-requires-2 c κs = search needs
 
--- src/time.rt:72:1
 returns : tie.Need-returns
 unfolding meritC
 returns c = like _ _ _ _ (then (c .before .before .before .num .ensures) (then (c .before .before .flag .ensures) (c .before .flag2 .ensures)))

@@ -3,41 +3,28 @@ use Rattle.fields.specs.Table.{timeC}
 use borrow.Author.Needs.{needs}
 use Rattle.fields.proofs.time.read_time.Statement.{statement}
 use Rattle.fields.proofs.time.read_time.Tie as tie
-use Rattle.fields.proofs.time.read_time.Reads as reads
-use Rattle.fields.proofs.time.read_time.Lts as lts
-use Rattle.per.proofs.cursor.Cursor.flag.Reads as flag-reads
-use Rattle.per.proofs.cursor.Cursor.num.Reads as num-reads
-use Rattle.per.proofs.cursor.Cursor.num_if.Reads as num-if-reads
 
--- src/time.rt:40:9
 num-requires : tie.Need-num-requires
 num-requires c κs = search needs
 
--- src/time.rt:41:9
 num-requires-2 : tie.Need-num-requires-2
 num-requires-2 c κs = search needs
 
--- src/time.rt:42:9
 num-requires-3 : tie.Need-num-requires-3
 num-requires-3 c κs = search needs
 
--- src/time.rt:43:9
 flag-requires : tie.Need-flag-requires
 flag-requires c κs = search needs
 
--- src/time.rt:44:9
 num-requires-4 : tie.Need-num-requires-4
 num-requires-4 c κs = search needs
 
--- src/time.rt:45:9
 num-requires-5 : tie.Need-num-requires-5
 num-requires-5 c κs = search needs
 
--- src/time.rt:46:9
 num-if-requires : tie.Need-num-if-requires
 num-if-requires c κs = search needs
 
--- src/time.rt:37:1
 returns : tie.Need-returns
 unfolding timeC
 returns c =

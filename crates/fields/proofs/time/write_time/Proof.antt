@@ -5,41 +5,28 @@ use Rattle.fields.specs.Table.{timeC}
 use borrow.Author.Needs.{needs}
 use Rattle.fields.proofs.time.write_time.Statement.{statement}
 use Rattle.fields.proofs.time.write_time.Tie as tie
-use Rattle.fields.proofs.time.write_time.Reads as reads
-use Rattle.fields.proofs.time.write_time.Lts as lts
-use Rattle.pen.proofs.Pen.flag.Reads as flag-reads
-use Rattle.pen.proofs.Pen.num.Reads as num-reads
-use Rattle.pen.proofs.Pen.num_if.Reads as num-if-reads
 
--- src/time.rt:63:9
 num-requires : tie.Need-num-requires
 num-requires c κs = search needs
 
--- src/time.rt:64:9
 num-requires-2 : tie.Need-num-requires-2
 num-requires-2 c κs = search needs
 
--- src/time.rt:65:9
 num-requires-3 : tie.Need-num-requires-3
 num-requires-3 c κs = search needs
 
--- src/time.rt:66:9
 flag-requires : tie.Need-flag-requires
 flag-requires c κs = search needs
 
--- src/time.rt:67:9
 num-requires-4 : tie.Need-num-requires-4
 num-requires-4 c κs = search needs
 
--- src/time.rt:68:9
 num-requires-5 : tie.Need-num-requires-5
 num-requires-5 c κs = search needs
 
--- src/time.rt:69:5
 num-if-requires : tie.Need-num-if-requires
 num-if-requires c κs = search needs
 
--- src/time.rt:60:1
 returns : tie.Need-returns
 unfolding timeC field
 returns c =

@@ -1,0 +1,4 @@
+pub mod Interval
+pub mod Table
+pub mod Asked
+pub mod laws
