@@ -2,12 +2,13 @@
 use pen::Pen;
 use per::cursor::Cursor;
 use per::cursor::Num;
+ghost use mathlib.Core.Path.{_≡_};
 ghost use Prim.Native.Nat.{_≤_};
 ghost use lib.ListN.{take};
 ghost use Rattle.per.specs.Formats.{vec};
 ghost use Rattle.per.specs.Reading.{Reads};
 ghost use Rattle.pen.specs.Writing.{Writes};
-ghost use Rattle.fields.specs.Lists.{listed, entryC, entriesC, namesC};
+ghost use Rattle.fields.specs.Lists.{listed, entryC, entriesC, namesC, noList};
 ghost use Rattle.fields.specs.Inner.{Filled};
 
 // Entries past the count are 0 when read, and are no part of the value.
@@ -24,6 +25,16 @@ pub struct ListedRead {
 struct Items {
     items: [u8; 128],
     next: Cursor,
+}
+
+// No entries.
+pub fn no_list() -> Listed
+    ensures { λ r. ⌜ r ≡ noList ⌝ }
+{
+    Listed {
+        count: 0,
+        items: [0u8; 128],
+    }
 }
 
 fn read_entry(c: Cursor, s: &[u8], top: u32, marked: bool) -> Num

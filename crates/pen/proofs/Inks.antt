@@ -106,6 +106,11 @@ inks-by c k {s} {p = p} {a = a} {b} x y =
       octets-is = y .octets-is ∙ rw (x .pen-is, x .octets-is) (ap (λ (i : Ink). i .octets) e);
     }
 
+-- the same, where the first one's value has no absent part
+pub inks-then : {A B : Type 0} (c : Codec A) (k : A → Codec B) {s t u : List ℕ} {p q r : Pen} {a : A} {b : B}
+    → c .norm a ≡ a → Writes c s p a q t → Writes (k a) t q b r u → Writes (dep c k) s p (a, b) r u
+inks-then {A} c k {t = t} {u} {q = q} {r} {a} {b} e x y = inks-by c k x (subst (λ (v : A). Writes (k v) t q b r u) (sym e) y)
+
 -- where the first is refused, the other writes nothing
 pub inks-first : {A B : Type 0} (c : Codec A) (k : A → Codec B) {s t : List ℕ} {p q : Pen} {a : A} (b : B) (n : ℕ) → c .chk a ≡ suc n → Writes c s p a q t → Writes (dep c k) s p (a, b) q t
 unfolding dep ink
