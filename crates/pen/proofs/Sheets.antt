@@ -18,7 +18,7 @@ use Rattle.per.specs.laws.Bits.{numAt-lt, num-there, num-back, ofBit-lt, to-of,
 use Rattle.per.specs.Codec.{Codec, first, unless}
 use Rattle.per.specs.laws.Codec.{first-not}
 use Rattle.per.specs.Pdu.{fill, pack, filled, encode}
-use Rattle.pen.specs.Writing.{octetWith, setBit, putBits, onward, delivered, unsent, writePdu, octetsFor, deliver, ink, Writes, Delivers}
+use Rattle.pen.specs.Writing.{octetWith, setBit, putBits, onward, delivered, unsent, writePdu, octetsFor, deliver, Ink, ink, Writes, Delivers}
 use Rattle.per.proofs.Octets.{length-bitsOf}
 use Rattle.pen.proofs.Puts.{octet-with-is, octet-with-lt}
 use Rattle.per.proofs.RoundTrip.{pack-bits, length-filled, length-pack, length-encode}
@@ -245,6 +245,15 @@ module _ {A : Type 0} (c : Codec A) (a : A) (l : length (c .enc a) ≤ 1024) whe
           let m : n ≤ length (putBits blank 0 e) = omega (arith, room) in
           rw (le-leb n (length (putBits blank 0 e)) m, size, sheet-encode)
       go (suc k) = refl
+
+-- a write changes octets and adds none
+pub sheet-long : {A : Type 0} (c : Codec A) {s t : List ℕ} {p q : Pen} {a : A} → Writes c s p a q t → length t ≡ length s
+unfolding ink
+sheet-long c {s} {p = p} {a = a} w = ap length (w .octets-is) ∙ go (eqb (p .refusal) 0)
+  where
+    go : (b : Bool) → length (cond {A = Ink} b (record { pen = record { at = onward (p .at) (length (c .enc a)); refusal = c .chk a }; octets = putBits s (p .at) (c .enc a) }) (record { pen = p; octets = s }) .octets) ≡ length s
+    go true = length-put (c .enc a) (p .at) s
+    go false = refl
 
 -- ---- how tight the statement of a delivery is: one answer and one content of the output
 pub delivers-one : {p : Pen} {s o t u : List ℕ} {x y : Written} → Delivers p s o x t → Delivers p s o y u → (x ≡ y) × (t ≡ u)

@@ -8,9 +8,10 @@ use lib.ListN.{length, getD, List·getD-eq-default}
 use borrow.Author.Tests.{eq-eqb, ne-eqb}
 use Rattle.per.specs.declared.cursor.Cursor.{Cursor}
 use Rattle.per.specs.Bits.{ofBit, numAt}
-use Rattle.per.specs.Codec.{refuse}
+use Rattle.per.specs.Codec.{Codec, refuse}
 use Rattle.per.specs.laws.Codec.{first-not}
-use Rattle.per.specs.Pdu.{fill, ending, finish}
+use Rattle.per.specs.Pdu.{fill, window, start, ending, finish, Answer, got, refused, answer, readPdu}
+use Rattle.per.specs.Reading.{Reads}
 
 -- past the end there are no ones
 num-past : (bs : List Bool) (at w : ℕ) → length bs ≤ at → numAt bs at w ≡ 0
@@ -39,3 +40,19 @@ finish-kept bs j h = ap (λ (n : ℕ). refuse (j .at) n) (sym (first-not (j .ref
 pub finish-judged : (bs : List Bool) (j : Cursor) (e : ℕ) → j .refusal ≡ 0 → e ≡ ending bs (j .at) → refuse (j .at) e ≡ finish bs j
 unfolding finish
 finish-judged bs j e z q = rw (z, q)
+
+-- ---- a whole PDU, from what its reader and the judgement of its end say
+answer-refused : {A : Type 0} (n : ℕ) (a : A) → (n ≡ 0 → ⊥) → answer n a ≡ refused n
+answer-refused zero a h = absurd (h refl)
+answer-refused (suc n) a h = refl
+
+module _ {A : Type 0} (c : Codec A) {s : List ℕ} {j n e : Cursor} {v : A} (b : j ≡ start s) (r : Reads c s j v n) (f : e ≡ finish (window s) n) where
+  pdu-is : readPdu c s ≡ answer (e .refusal) v
+  unfolding readPdu
+  pdu-is = rw (← b, ← r .value-is, ← r .next-is, f)
+
+  pub pdu-refused : (e .refusal ≡ 0 → ⊥) → readPdu c s ≡ refused (e .refusal)
+  pdu-refused h = pdu-is ∙ answer-refused (e .refusal) v h
+
+  pub pdu-got : e .refusal ≡ 0 → readPdu c s ≡ got v
+  pdu-got h = pdu-is ∙ ap (λ (k : ℕ). answer k v) h

@@ -6,3 +6,4 @@ pub mod Signs
 pub mod Compose
 pub mod Within
 pub mod RoundTrip
+pub mod Longest

@@ -1,0 +1,91 @@
+// Whole PDUs: octets to values and values to octets, both families.
+use downlink::Air;
+use downlink::AirPdu;
+use downlink::read_air;
+use downlink::write_air;
+use fields::list::Listed;
+use fields::list::no_list;
+use pen::Pen;
+use pen::Written;
+use per::cursor::Cursor;
+use uplink::Ground;
+use uplink::read_ground;
+use uplink::write_ground;
+ghost use mathlib.Core.Path.{_≡_};
+ghost use Rattle.per.specs.Pdu.{readPdu};
+ghost use Rattle.downlink.specs.Table.{airC};
+ghost use Rattle.uplink.specs.Table.{groundC};
+ghost use Rattle.pdu.specs.Answers.{airReading, groundReading, Sends};
+
+// What reading an aircraft PDU gives: its kind, or the number of a refusal.
+pub enum AirAnswer {
+    Good(Air),
+    Refused(u8),
+}
+
+// The list stands beside the answer; it is empty beside a refusal.
+pub struct AirReading {
+    pub answer: AirAnswer,
+    pub list: Listed,
+}
+
+// What reading a ground PDU gives.
+pub enum GroundAnswer {
+    Good(Ground),
+    Refused(u8),
+}
+
+// The whole of an aircraft PDU's octets.
+pub fn decode_air(s: &[u8]) -> AirReading
+    ensures { λ r. ⌜ r ≡ airReading (readPdu airC (now (s .entry))) ⌝ }
+{
+    let r = read_air(Cursor::start(s), s);
+    let end = r.next.finish(s);
+    let pdu = r.value;
+    let kind = pdu.kind;
+    let refusal = end.refusal;
+    if refusal != 0 {
+        let list = no_list();
+        return AirReading {
+            answer: AirAnswer::Refused(refusal),
+            list,
+        };
+    }
+    let list = pdu.list;
+    AirReading {
+        answer: AirAnswer::Good(kind),
+        list,
+    }
+}
+
+// The whole of a ground PDU's octets.
+pub fn decode_ground(s: &[u8]) -> GroundAnswer
+    ensures { λ r. ⌜ r ≡ groundReading (readPdu groundC (now (s .entry))) ⌝ }
+{
+    let r = read_ground(Cursor::start(s), s);
+    let end = r.next.finish(s);
+    let value = r.value;
+    let refusal = end.refusal;
+    if refusal != 0 {
+        return GroundAnswer::Refused(refusal);
+    }
+    GroundAnswer::Good(value)
+}
+
+// An aircraft PDU into the caller's octets.
+pub fn encode_air(a: AirPdu, out: &mut [u8]) -> Written
+    ensures { λ r. ⌜ Sends airC a (now (out .entry)) r (now (out .exit)) ⌝ }
+{
+    let mut sheet = [0u8; 128];
+    let p = write_air(Pen::start(), &mut sheet, a);
+    p.deliver(&sheet, out)
+}
+
+// A ground PDU into the caller's octets.
+pub fn encode_ground(g: Ground, out: &mut [u8]) -> Written
+    ensures { λ r. ⌜ Sends groundC g (now (out .entry)) r (now (out .exit)) ⌝ }
+{
+    let mut sheet = [0u8; 128];
+    let p = write_ground(Pen::start(), &mut sheet, g);
+    p.deliver(&sheet, out)
+}
