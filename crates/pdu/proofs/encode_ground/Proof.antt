@@ -1,35 +1,31 @@
+use mathlib.Core.Path.{sym}
+use lib.Dec.{lit≤}
+use Rattle.per.proofs.Longest.{up}
+use Rattle.pen.proofs.Sheets.{sheet-long}
+use Rattle.uplink.specs.Table.{groundC}
+use Rattle.uplink.proofs.Bounds.{ground-most}
+use Rattle.pdu.proofs.Sending.{sends}
 use borrow.Author.Needs.{needs}
 use Rattle.pdu.proofs.encode_ground.Statement.{statement}
 use Rattle.pdu.proofs.encode_ground.Tie as tie
-use Rattle.pdu.proofs.encode_ground.Reads as reads
-use Rattle.pdu.proofs.encode_ground.Lts as lts
-use Rattle.pen.proofs.Pen.deliver.Reads as deliver-reads
-use Rattle.pen.proofs.Pen.start.Reads as start-reads
-use Rattle.uplink.proofs.write_ground.Reads as write-ground-reads
 
--- src/lib.rt:83:26
 start-requires : tie.Need-start-requires
 start-requires c κs = search needs
 
--- src/lib.rt:83:9
 write-ground-requires : tie.Need-write-ground-requires
 write-ground-requires c κs = search needs
 
--- src/lib.rt:84:15
 slice-aggregate-deliver : tie.Need-slice-aggregate-deliver
-slice-aggregate-deliver c = ?
+slice-aggregate-deliver c = sym (sheet-long groundC (c .before .write-ground .ensures))
 
--- src/lib.rt:84:5
 deliver-requires : tie.Need-deliver-requires
 deliver-requires c κs = search needs
 
--- src/lib.rt:79:1
 same-length : tie.Need-same-length
 same-length c = search needs
 
--- src/lib.rt:79:1
 returns : tie.Need-returns
-returns c = ?
+returns c = sends groundC (up (lit≤ tt) ground-most) (c .before .before .before .before .before .before .before .start .ensures) (c .before .before .before .before .before .write-ground .ensures) (c .before .before .deliver .ensures)
 
 pub encode-ground-spec : {M : Type 1} → statement M
 encode-ground-spec =
