@@ -1,2 +1,3 @@
 pub mod Sending
 pub mod Promises
+pub mod Bench

@@ -1,0 +1,16 @@
+-- P1 to P13 under a single claim: each reads as the table says, and each value is written as the table says. Assumes nothing.
+use mathlib.Core.Path.{_≡_, refl}
+use Rattle.per.specs.Bits.{ofBit, toBit, toBits, numAt, bitsOf, widthIn, width}
+use Rattle.per.specs.Formats.{field, dep, via, only, absent, when, has, altCodec, neverCodec, choice, vec, list16}
+use Rattle.per.specs.Pdu.{pack, encode, window, start, finish, readPdu}
+use Rattle.fields.specs.Table.{angleC, positionC, timeC, meritC, fixC, reportC, emergencyReportC}
+use Rattle.fields.specs.Lists.{listed, entryC}
+use Rattle.uplink.specs.Interval.{intervalC, sentC, sentBits}
+use Rattle.uplink.specs.Table.{periodicC, groundAlt, groundC}
+use Rattle.downlink.specs.Parts.{ackedC, ackedEmergencyC, eventReportC, negativeC, noncomplianceC}
+use Rattle.downlink.specs.Table.{airAlt, airC}
+use Rattle.pdu.specs.Bench.{bench, reread, rewritten, all}
+
+pub bench-holds : (all reread bench ≡ bench) × (all rewritten bench ≡ bench)
+unfolding all reread rewritten readPdu encode pack window start finish bitsOf toBits numAt ofBit toBit width widthIn field dep via only absent when has altCodec neverCodec choice vec list16 angleC positionC timeC meritC fixC reportC emergencyReportC listed entryC intervalC sentC sentBits periodicC groundAlt groundC ackedC ackedEmergencyC eventReportC negativeC noncomplianceC airAlt airC
+bench-holds = (refl, refl)
