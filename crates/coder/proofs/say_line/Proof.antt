@@ -1,0 +1,55 @@
+use mathlib.Core.Path.{sym}
+use native.Mathlib.Omega.{arith}
+use lib.Seq.{length-take-le}
+use borrow.Author.Needs.{needs}
+use Rattle.coder.proofs.say_line.Statement.{statement}
+use Rattle.coder.proofs.say_line.Tie as tie
+
+say-refused-requires : tie.Need-say-refused-requires
+say-refused-requires c κs = search needs
+
+same-length : tie.Need-same-length
+same-length c = search needs
+
+returns : tie.Need-returns
+returns c = search needs
+
+word-end-requires : tie.Need-word-end-requires
+word-end-requires c κs = search needs
+
+slice-aggregate-say-tail : tie.Need-slice-aggregate-say-tail
+slice-aggregate-say-tail c = sym (length-take-le _ _ (c .before .before .word-end .ensures .1))
+
+sub-say-tail : tie.Need-sub-say-tail
+sub-say-tail c = search needs
+
+part-say-tail-start : tie.Need-part-say-tail-start
+part-say-tail-start c = search needs
+
+part-say-tail-end : tie.Need-part-say-tail-end
+part-say-tail-end c = search needs
+
+say-tail-requires : tie.Need-say-tail-requires
+say-tail-requires c κs = search needs
+
+same-length-2 : tie.Need-same-length-2
+same-length-2 c = search needs
+
+returns-2 : tie.Need-returns-2
+returns-2 c = search needs
+
+pub say-line-spec : {M : Type 1} → statement M
+say-line-spec =
+    tie.close
+    (tie.spec
+    say-refused-requires
+    same-length
+    returns
+    word-end-requires
+    slice-aggregate-say-tail
+    sub-say-tail
+    part-say-tail-start
+    part-say-tail-end
+    say-tail-requires
+    same-length-2
+    returns-2)

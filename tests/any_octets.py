@@ -1,0 +1,42 @@
+"""any_octets.py PROGRAM [ARGS..]: octets of every kind on standard input; the program has to end with one answer a line."""
+import random
+import re
+import subprocess
+import sys
+
+ANSWER = re.compile(rb"(ok( [0-9a-f]+)?|refused [0-9]+)\Z")
+
+
+def lines_of(data):
+    parts = data.split(b"\n")
+    return len(parts) - (parts[-1] == b"")
+
+
+def check(name, data):
+    run = subprocess.run(sys.argv[1:], input=data, stdout=subprocess.PIPE, timeout=120)
+    answers = run.stdout.split(b"\n")
+    good = run.returncode == 0 and answers[-1] == b"" and len(answers) - 1 == lines_of(data) and all(map(ANSWER.match, answers[:-1]))
+    print(f"{name}: {len(data)} octets, {len(answers) - 1} answers{'' if good else ': WRONG'}")
+    return good
+
+
+def main():
+    rng = random.Random()
+    seed = rng.randrange(2**32)
+    rng.seed(seed)
+    print(f"seed {seed}")
+    cases = {
+        "empty": b"",
+        "no last LF": b"air 00",
+        "empty lines": b"\n" * 100000,
+        "NUL": b"\0" * 5000 + b"\n" + b"air \0" + b"\nair 00\n",
+        "CR LF": b"air 00\r\n" * 10,
+        "one long line": b"a" * 5000000,
+        "long lines": b"".join(b"air " + b"0" * n + b"\n" for n in (4091, 4092, 4093, 70000, 1000000)),
+        "random octets": rng.randbytes(4000000),
+        "many lines": b"ground 74\nair 4200\n" * 200000,
+    }
+    return all([check(name, data) for name, data in cases.items()])
+
+
+sys.exit(0 if main() else 1)
