@@ -5,12 +5,12 @@ use mathlib.Core.Bool.{Bool, true, false, not, false≢true}
 use native.Mathlib.Omega.{arith}
 use lib.Bits.{bitAnd, and-high}
 use lib.Dec.{eqb}
-use borrow.Author.Tests.{eq-eqb}
+use borrow.Author.Tests.{eq-eqb, eqb-true}
 use Rattle.per.specs.Codec.{Codec, unless}
 use Rattle.per.specs.Formats.{field, dep, via, altCodec, choice, has}
 use Rattle.uplink.specs.declared.interval.Interval.{Interval}
 use Rattle.uplink.specs.declared.interval.Interval.the-variants.{Seconds, Minutes}
-use Rattle.uplink.specs.Interval.{intervalC, isFive, sentBits}
+use Rattle.uplink.specs.Interval.{intervalC, fiveMinutes, isFive, sentBits}
 
 -- what stands beside a refusal
 pub interval-none : Seconds 0 ≡ intervalC .none
@@ -24,7 +24,7 @@ interval-norm (Seconds n) = refl
 interval-norm (Minutes n) = refl
 
 -- without the interval's presence bit 7 bits are left
-low-bits : (e : ℕ) → e ≤ 127 → has 128 e ≡ false
+pub low-bits : (e : ℕ) → e ≤ 127 → has 128 e ≡ false
 unfolding has
 low-bits e l =
     let a : bitAnd e 128 ≡ e / 128 % 2 * 128 = and-high e 1 7 in
@@ -40,6 +40,11 @@ sent-not-five i five there v e p q r l t = sym r ∙ go five q
     go : (b : Bool) → v ≡ sentBits b e → b ≡ false
     go true h = absurd (false≢true (sym (ap (has 128) h ∙ low-bits e l) ∙ sym p ∙ t))
     go false h = refl
+
+-- the default is 5 minutes and no other interval
+pub five-is : (i : Interval) → isFive i ≡ true → fiveMinutes ≡ i
+five-is (Seconds n) e = absurd (false≢true e)
+five-is (Minutes n) e = ap Minutes (sym (eqb-true n 5 e))
 
 pub five-11 : (i : Interval) (b : Bool) → b ≡ isFive i → b ≡ true → unless (not (isFive i)) 11 ≡ 11
 five-11 i b e t = rw (← e, t)
