@@ -1,13 +1,12 @@
 -- Aircraft PDUs have the writer's own form alone, and fit a sheet. Assumes nothing.
 use Prim.Native.Nat.{ℕ, zero, suc}
-use mathlib.Core.Bool.{Bool, true, false}
 use lib.Dec.{lit≤}
 use Rattle.per.specs.Bits.{width, widthIn}
 use Rattle.per.specs.Codec.{Within}
 use Rattle.per.specs.Formats.{flagField, numField}
 use Rattle.per.proofs.Within.{forms}
 use Rattle.per.proofs.Longest.{Most, up, a-field, a-pair, a-like, a-mark, a-null, a-when, an-alt, an-unused, a-choice, a-list}
-use Rattle.fields.specs.Lists.{listed, entryC, entriesC, namesC}
+use Rattle.fields.specs.Lists.{listed, entryC, entriesC}
 use Rattle.fields.proofs.Bounds.{report-own, emergency-own, listed-own, report-most, emergency-most, names-most}
 use Rattle.downlink.specs.Parts.{ackedC, ackedEmergencyC, eventReportC, negativeC, entryTop, noncomplianceC}
 use Rattle.downlink.specs.Table.{airAlt, airC}

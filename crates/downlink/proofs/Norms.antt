@@ -1,17 +1,11 @@
 -- What reads back of an aircraft PDU: its parts, each as its own law says; a list only where the kind has one. Assumes nothing.
-use Prim.Native.Nat.{ℕ, _*_, _≤_}
 use mathlib.Core.Path.{_≡_, refl}
 use mathlib.Core.Bool.{Bool, true, false, cond}
 use lib.Dec.{eqb}
-use Rattle.per.specs.Codec.{Codec}
-use Rattle.per.specs.Formats.{field, dep, via, only, absent, when, altCodec, choice}
+use Rattle.per.specs.Formats.{field, dep, via, absent, when, altCodec, choice}
 use Rattle.fields.specs.declared.list.Listed.{Listed}
 use Rattle.fields.specs.Table.{reportC, emergencyReportC}
 use Rattle.fields.specs.Lists.{entriesC, namesC, noList}
-use Rattle.downlink.specs.declared.told.AckedReport.{AckedReport}
-use Rattle.downlink.specs.declared.told.AckedEmergency.{AckedEmergency}
-use Rattle.downlink.specs.declared.told.EventReport.{EventReport}
-use Rattle.downlink.specs.declared.acks.NegativeAck.{NegativeAck}
 use Rattle.downlink.specs.declared.Air.{Air}
 use Rattle.downlink.specs.declared.Air.the-variants.{CancelEmergency, Demand, Emergency, Event, Negative, Noncompliance, Periodic, Positive, Abort}
 use Rattle.downlink.specs.declared.AirPdu.{AirPdu}

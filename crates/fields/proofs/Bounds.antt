@@ -3,12 +3,12 @@ use Prim.Native.Nat.{ℕ, _+_, _-_}
 use mathlib.Core.Bool.{Bool, true, false}
 use lib.Dec.{lit≤}
 use Rattle.per.specs.Bits.{width, widthIn}
-use Rattle.per.specs.Codec.{Codec, Within}
+use Rattle.per.specs.Codec.{Within}
 use Rattle.per.specs.Formats.{flagField, numField, signedField}
 use Rattle.per.proofs.Within.{forms}
 use Rattle.per.proofs.Longest.{Most, up, a-field, a-pair, a-like, a-mark, an-only, a-when, a-list}
 use Rattle.fields.specs.Table.{angleC, positionC, timeC, meritC, fixC, address, reportC, emergencyReportC}
-use Rattle.fields.specs.Lists.{listed, entryC, entriesC, namesC}
+use Rattle.fields.specs.Lists.{listed, entryC, namesC}
 
 -- ---- one form
 angle-own : (n top : ℕ) → Within n (angleC top)

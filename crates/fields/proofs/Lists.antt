@@ -1,5 +1,5 @@
 -- Lists in arrays, entry by entry. Assumes nothing.
-use Prim.Native.Nat.{ℕ, zero, suc, _+_, _-_, _*_, _≤_, _<_}
+use Prim.Native.Nat.{ℕ, suc, _+_, _-_, _*_, _≤_, _<_}
 use mathlib.Core.Path.{_≡_, refl, sym, ap, subst, _∙_}
 use mathlib.Core.Bool.{Bool, true, false}
 use mathlib.Core.List.{List, [], _∷_, _++_, append-assoc}
@@ -8,12 +8,11 @@ use native.Mathlib.Numerals.{add-one}
 use native.Mathlib.Omega.{arith}
 use lib.ListN.{length, getD, set, take, replicate}
 use lib.Seq.{set-at, take-suc, length-take-le}
-use lib.Dec.{leb}
 use Rattle.per.specs.declared.cursor.Cursor.{Cursor}
 use Rattle.pen.specs.declared.Pen.{Pen}
 use Rattle.per.specs.Codec.{Codec}
 use Rattle.per.specs.laws.Codec.{unless-gt}
-use Rattle.per.specs.Formats.{field, dep, via, absent, num, extension, ext, count, vec, list16}
+use Rattle.per.specs.Formats.{field, via, absent, num, extension, count, vec, list16}
 use Rattle.per.specs.Pdu.{window}
 use Rattle.per.specs.Reading.{Reads}
 use Rattle.per.proofs.Compose.{by, like, after-ext, one-more, vec-long, num-most}

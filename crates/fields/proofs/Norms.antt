@@ -1,13 +1,12 @@
 -- What reads back of a value: everything but what is absent, which reads as 0. Assumes nothing.
 use Prim.Native.Nat.{ℕ, zero, suc, _-_, _*_, _≤_}
-use mathlib.Core.Path.{_≡_, refl, ap}
+use mathlib.Core.Path.{_≡_, refl}
 use mathlib.Core.Bool.{Bool, true, false, cond}
 use mathlib.Core.List.{List, [], _∷_, _++_}
 use native.Mathlib.Omega.{arith}
 use lib.IntN.{pos, negsuc}
 use lib.ListN.{length, take, replicate}
 use lib.Seq.{length-take-le}
-use Rattle.per.specs.Codec.{Codec}
 use Rattle.per.specs.Formats.{field, dep, via, only, absent, when, has, vec, list16, num, signedField}
 use Rattle.fields.specs.declared.list.Listed.{Listed}
 use Rattle.fields.specs.declared.position.Position.{Position}

@@ -6,7 +6,7 @@ use native.Mathlib.Omega.{arith}
 use lib.Dec.{lit≤}
 use lib.ListN.{length, getD}
 use Rattle.per.specs.Codec.{Codec}
-use Rattle.per.specs.Pdu.{encode, Answer, got, readPdu}
+use Rattle.per.specs.Pdu.{encode, got, readPdu}
 use Rattle.per.proofs.Longest.{Most, up}
 use Rattle.per.proofs.RoundTrip.{written, read, length-encode}
 use Rattle.uplink.specs.declared.Ground.{Ground}

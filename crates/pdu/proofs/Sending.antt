@@ -1,8 +1,8 @@
 -- A write on a blank sheet and its delivery are the write of the definition. Assumes nothing.
-use Prim.Native.Nat.{ℕ, _≤_}
-use mathlib.Core.Path.{_≡_, refl, sym, ap, subst, _∙_}
+use Prim.Native.Nat.{ℕ}
+use mathlib.Core.Path.{_≡_, sym, ap, subst, _∙_}
 use mathlib.Core.List.{List}
-use lib.ListN.{length, replicate}
+use lib.ListN.{replicate}
 use Rattle.per.specs.Codec.{Codec}
 use Rattle.per.proofs.Longest.{Most}
 use Rattle.pen.specs.declared.Pen.{Pen}

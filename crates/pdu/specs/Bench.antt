@@ -1,10 +1,9 @@
 -- The bench examples of 01, P1 to P13, as one table: the family, the octets, and what they read as.
 use Prim.Native.Nat.{ℕ}
-use mathlib.Core.Bool.{Bool, false}
+use mathlib.Core.Bool.{false}
 use mathlib.Core.List.{List, [], _∷_}
 use lib.IntN.{pos}
 use Rattle.per.specs.Pdu.{Answer, got, refused, encode, readPdu}
-use Rattle.fields.specs.Lists.{noList}
 use Rattle.fields.specs.declared.position.Angle.{Angle}
 use Rattle.fields.specs.declared.report.Report.{Report}
 use Rattle.uplink.specs.declared.interval.Interval.the-variants.{Minutes}
@@ -12,7 +11,7 @@ use Rattle.uplink.specs.declared.contract.Periodic.{Periodic}
 use Rattle.uplink.specs.declared.Ground.{Ground}
 use Rattle.uplink.specs.declared.Ground.the-variants.{CancelContract, DemandContract, EventContract, ModifyEmergency, PeriodicContract}
 use Rattle.uplink.specs.declared.Ground as ground
-use Rattle.uplink.specs.Table.{groundC, noPeriod}
+use Rattle.uplink.specs.Table.{groundC}
 use Rattle.downlink.specs.declared.Air.the-variants.{CancelEmergency, Demand, Negative, Positive}
 use Rattle.downlink.specs.declared.Air as air
 use Rattle.downlink.specs.declared.AirPdu.{AirPdu}

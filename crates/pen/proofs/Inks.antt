@@ -1,9 +1,8 @@
 -- How writings compose: a law for each way out of a field, and one for each combinator. Assumes nothing.
-use Prim.Native.Nat.{ℕ, zero, suc, _+_, _≤_, _<_, min, max}
+use Prim.Native.Nat.{ℕ, zero, suc, _+_, _≤_}
 use mathlib.Core.Path.{_≡_, refl, sym, ap, subst, _∙_}
 use mathlib.Core.Bool.{Bool, true, false, cond}
 use mathlib.Core.List.{List, [], _∷_, _++_, append-nil, append-assoc}
-use native.Mathlib.Nat.{add-zero}
 use native.Mathlib.Omega.{arith}
 use lib.Dec.{eqb, ltb, eqb·suc-zero}
 use lib.ListN.{length, length-append}
@@ -13,7 +12,7 @@ use Rattle.per.specs.Bits.{toBits}
 use Rattle.per.specs.laws.Bits.{length-toBits}
 use Rattle.per.specs.Codec.{Codec, first, upto}
 use Rattle.per.specs.Field.{Field}
-use Rattle.per.specs.Formats.{field, vec, dep, via, only, absent, when, Null, ext, extension, pair, Alt, altCodec, choice, choice-left, index}
+use Rattle.per.specs.Formats.{field, vec, dep, via, only, absent, when, ext, extension, Alt, altCodec, choice, choice-left, index}
 use Rattle.pen.specs.Writing.{putBits, onward, barred, Ink, ink, Writes}
 use Rattle.pen.specs.Inner.{Inked}
 use Rattle.pen.proofs.Puts.{put-past, put-append}

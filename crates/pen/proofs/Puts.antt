@@ -1,16 +1,16 @@
 -- What a run of bits does to octets. Assumes nothing.
 use Prim.Native.Nat.{ℕ, zero, suc, _+_, _-_, _*_, _/_, _%_, _^_, _≤_, _<_}
 use mathlib.Core.Path.{_≡_, refl, sym, ap, subst, _∙_}
-use mathlib.Core.Bool.{Bool, true, false, cond}
+use mathlib.Core.Bool.{Bool}
 use mathlib.Core.List.{List, [], _∷_, _++_}
-use native.Mathlib.Nat.{pow-suc, pow-succ', mod-lt, div-div-eq-div-mul, add-zero, add-suc, mul-assoc, div-one, mod-one}
+use native.Mathlib.Nat.{pow-suc, pow-succ', mod-lt, div-div-eq-div-mul, add-zero, mul-assoc, div-one, mod-one}
 use native.Mathlib.Numerals.{add-one}
 use native.Mathlib.Omega.{arith}
 use lib.Arith.{digits-lt}
-use lib.ListN.{length, getD, set, length-append}
+use lib.ListN.{length, getD, set}
 use lib.Pow.{pow-pos, pow-add, shr-lt, shr-shr, mod-pow-add}
 use borrow.Author.Tests.{le-ltb, lt-ltb}
-use Rattle.per.specs.Bits.{ofBit, toBit, toBits}
+use Rattle.per.specs.Bits.{toBit, toBits}
 use Rattle.per.specs.laws.Bits.{of-to, length-toBits}
 use Rattle.pen.specs.Writing.{octetWith, setBit, putBits}
 

@@ -13,7 +13,7 @@ use Rattle.per.specs.Codec.{Codec, Out, out, place, refuse}
 use Rattle.per.specs.laws.Codec.{unless-true}
 use Rattle.per.specs.Bits.{numAt}
 use Rattle.per.specs.Field.{Field, settle}
-use Rattle.per.specs.Formats.{field, numField, num, countField, count, vec, dep, via, only, absent, when, Null, ext, extension, pair, Alt, altCodec, choice, choice-left, index}
+use Rattle.per.specs.Formats.{field, numField, num, countField, count, vec, dep, via, only, absent, when, ext, extension, pair, Alt, altCodec, choice, choice-left, index}
 use Rattle.per.specs.Pdu.{window}
 use Rattle.per.specs.Reading.{Reads}
 use Rattle.per.specs.Inner.{settled}

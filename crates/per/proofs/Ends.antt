@@ -1,16 +1,16 @@
 -- The start and the end of a PDU as the code judges them. Assumes nothing.
-use Prim.Native.Nat.{ℕ, zero, suc, _+_, _-_, _*_, _%_, _≤_, _<_}
+use Prim.Native.Nat.{ℕ, zero, suc, _+_, _-_, _≤_, _<_}
 use mathlib.Core.Path.{_≡_, refl, sym, ap, _∙_}
 use mathlib.Core.Bool.{Bool, false}
 use mathlib.Core.List.{List}
 use native.Mathlib.Omega.{arith}
-use lib.ListN.{length, getD, List·getD-eq-default}
+use lib.ListN.{length, List·getD-eq-default}
 use borrow.Author.Tests.{eq-eqb, ne-eqb}
 use Rattle.per.specs.declared.cursor.Cursor.{Cursor}
 use Rattle.per.specs.Bits.{ofBit, numAt}
 use Rattle.per.specs.Codec.{Codec, refuse}
 use Rattle.per.specs.laws.Codec.{first-not}
-use Rattle.per.specs.Pdu.{fill, window, start, ending, finish, Answer, got, refused, answer, readPdu}
+use Rattle.per.specs.Pdu.{fill, window, start, ending, finish, got, refused, answer, readPdu}
 use Rattle.per.specs.Reading.{Reads}
 
 -- past the end there are no ones

@@ -8,14 +8,14 @@ use native.Mathlib.Omega.{arith}
 use lib.ListN.{length}
 use lib.Dec.{eqb, leb, ltb, eqb·suc-zero}
 use lib.Pow.{pow-mono}
-use borrow.Author.Tests.{eq-eqb, ne-eqb, le-leb, lt-leb, eqb-true, eqb-false, leb-true, ltb-true, ltb-false}
+use borrow.Author.Tests.{eq-eqb, le-leb, lt-leb, eqb-true, eqb-false, leb-true, ltb-true, ltb-false}
 use Rattle.per.specs.declared.cursor.Cursor.{Cursor}
 use Rattle.per.specs.declared.cursor.Num.{Num}
 use Rattle.per.specs.Bits.{numAt}
 use Rattle.per.specs.laws.Bits.{numAt-lt}
 use Rattle.per.specs.Codec.{Codec, Out, out, place, refuse, unless}
-use Rattle.per.specs.Field.{Field, settle, readField}
-use Rattle.per.specs.Formats.{field, run, runField}
+use Rattle.per.specs.Field.{Field, settle}
+use Rattle.per.specs.Formats.{field, run}
 use Rattle.per.specs.Pdu.{window}
 use Rattle.per.specs.Reading.{Reads}
 use Rattle.per.specs.Inner.{settled}

@@ -1,18 +1,18 @@
 -- How long a value's bits can be: a law for each combinator, with which a message's bound is its codec once more. Assumes nothing.
-use Prim.Native.Nat.{ℕ, zero, suc, _+_, _-_, _*_, _≤_, _<_}
-use mathlib.Core.Path.{_≡_, refl, sym, ap, _∙_}
-use mathlib.Core.Bool.{Bool, true, false, not}
-use mathlib.Core.List.{List, [], _∷_, _++_}
+use Prim.Native.Nat.{ℕ, zero, suc, _+_, _-_, _*_, _≤_}
+use mathlib.Core.Path.{_≡_, refl}
+use mathlib.Core.Bool.{Bool, true, false}
+use mathlib.Core.List.{List, _++_}
 use native.Mathlib.Nat.{mul-le-mul-right}
 use native.Mathlib.Omega.{arith}
-use lib.Dec.{eqb, leb}
+use lib.Dec.{leb}
 use lib.ListN.{length, length-append}
-use borrow.Author.Tests.{leb-true, leb-false}
+use borrow.Author.Tests.{leb-true}
 use Rattle.per.specs.Bits.{toBits, width}
 use Rattle.per.specs.laws.Bits.{length-toBits}
 use Rattle.per.specs.Codec.{Codec, unless, upto}
 use Rattle.per.specs.Field.{Field}
-use Rattle.per.specs.Formats.{field, extensionField, ext, dep, via, only, absent, when, Alt, altCodec, neverCodec, index, numField, choice, isNil, count, vec, list16}
+use Rattle.per.specs.Formats.{field, extensionField, ext, dep, via, only, absent, when, Alt, altCodec, neverCodec, numField, choice, vec, list16}
 
 -- no value has more than n bits
 pub record Most {A : Type 0} (n : ℕ) (c : Codec A) : Type 0 where

@@ -5,7 +5,7 @@ use mathlib.Core.Bool.{Bool}
 use mathlib.Core.List.{List, [], _∷_, _++_}
 use native.Mathlib.Nat.{pow-suc, add-zero}
 use native.Mathlib.Omega.{arith}
-use lib.ListN.{length, getD, take, drop, length-append, length-take, length-drop}
+use lib.ListN.{length, getD, take, drop, length-append, length-take}
 use lib.Seq.{drop-cons, drop-at, drop-drop, drop-nil, getD-take, take-all}
 use lib.Count.{leadingZeros}
 use Rattle.per.specs.Bits.{toBits, numAt, bitsOf, width, widthIn}

@@ -1,7 +1,7 @@
 -- The two round trips, for every codec. Assumes nothing.
-use Prim.Native.Nat.{ℕ, zero, suc, _+_, _-_, _*_, _/_, _%_, _^_, _≤_, _<_}
+use Prim.Native.Nat.{ℕ, zero, suc, _+_, _-_, _*_, _/_, _≤_, _<_}
 use mathlib.Core.Path.{_≡_, refl, sym, ap, subst, _∙_}
-use mathlib.Core.Bool.{Bool, true, false}
+use mathlib.Core.Bool.{Bool, false}
 use mathlib.Core.List.{List, [], _∷_, _++_, append-nil}
 use native.Mathlib.Nat.{zero-add}
 use native.Mathlib.Omega.{arith}
@@ -14,8 +14,8 @@ use Rattle.per.specs.declared.cursor.Cursor.{Cursor}
 use Rattle.per.specs.Bits.{toBit, toBits, numAt, bitsOf}
 use Rattle.per.specs.laws.Bits.{length-toBits, num-there, num-back}
 use Rattle.per.specs.Codec.{Codec, Out, out, place, Within, first, unless}
-use Rattle.per.specs.laws.Codec.{first-0, first-1, unless-true, unless-le, unstuck}
-use Rattle.per.specs.Pdu.{fill, filled, pack, encode, window, start, ending, finish, Answer, got, refused, answer, readPdu, formPdu}
+use Rattle.per.specs.laws.Codec.{first-0, first-1, unless-true, unstuck}
+use Rattle.per.specs.Pdu.{fill, filled, pack, encode, window, start, ending, finish, got, answer, readPdu, formPdu}
 use Rattle.per.proofs.Octets.{length-bitsOf, window-all}
 
 toBits-zero : (w : ℕ) → toBits w 0 ≡ replicate w false

@@ -1,5 +1,5 @@
 -- Which forms a codec reads: a law for each combinator, all found by `search forms`. Assumes nothing.
-use Prim.Native.Nat.{ℕ, zero, suc, max, _≤_, _*_}
+use Prim.Native.Nat.{ℕ, zero, suc, _*_}
 use mathlib.Core.Path.{_≡_}
 use mathlib.Core.Bool.{Bool, true, false}
 use native.Mathlib.Omega.{arith}

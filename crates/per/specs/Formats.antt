@@ -1,5 +1,5 @@
 -- The formats of 01's message table: each kind of field, and each way to put codecs together, as a codec with its laws.
-use Prim.Native.Nat.{ℕ, zero, suc, _+_, _-_, _*_, _^_, _≤_, _<_}
+use Prim.Native.Nat.{ℕ, zero, suc, _+_, _-_, _*_, _^_}
 use mathlib.Core.Path.{_≡_, refl, sym, ap, _∙_}
 use mathlib.Core.Bool.{Bool, true, false, not, _&&_}
 use mathlib.Core.List.{List, [], _∷_}
@@ -13,7 +13,7 @@ use borrow.Author.Tests.{eq-eqb, eqb-true}
 use Rattle.per.specs.declared.cursor.Signed.{Signed}
 use Rattle.per.specs.Bits.{ofBit, width}
 use Rattle.per.specs.laws.Bits.{ofBit-lt}
-use Rattle.per.specs.Codec.{Codec, Out, out, place, Kept, Own, first, unless}
+use Rattle.per.specs.Codec.{Codec, out, first, unless}
 use Rattle.per.specs.laws.Codec.{first-0, first-1, unless-true}
 use Rattle.per.specs.Field.{Field, readField, fieldBits, raised, raisedChk}
 use Rattle.per.specs.laws.Field.{field-stuck, field-there, field-room, field-kept, field-back}

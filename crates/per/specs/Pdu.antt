@@ -1,12 +1,12 @@
 -- The octet level: a PDU's bits, filled to an octet with zeros; and what reading and writing a whole PDU gives.
 use Prim.Native.Nat.{ℕ, zero, suc, _+_, _-_, _/_, _%_}
-use mathlib.Core.Bool.{Bool, true, false}
+use mathlib.Core.Bool.{Bool, false}
 use mathlib.Core.List.{List, [], _∷_, _++_}
 use lib.ListN.{length, take, drop, replicate}
 use lib.Dec.{eqb, leb}
 use Rattle.per.specs.declared.cursor.Cursor.{Cursor}
 use Rattle.per.specs.Bits.{numAt, bitsOf}
-use Rattle.per.specs.Codec.{Codec, Out, first, unless, refuse}
+use Rattle.per.specs.Codec.{Codec, first, unless, refuse}
 
 -- how many bits fill n bits to an octet
 abbrev pub fill : ℕ → ℕ

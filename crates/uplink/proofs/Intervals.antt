@@ -1,12 +1,11 @@
 -- Intervals, as the code reads and writes them. Assumes nothing.
-use Prim.Native.Nat.{ℕ, _+_, _*_, _/_, _%_, _≤_}
+use Prim.Native.Nat.{ℕ, _*_, _/_, _%_, _≤_}
 use mathlib.Core.Path.{_≡_, refl, sym, ap, _∙_}
 use mathlib.Core.Bool.{Bool, true, false, not, false≢true}
 use native.Mathlib.Omega.{arith}
 use lib.Bits.{bitAnd, and-high}
-use lib.Dec.{eqb}
 use borrow.Author.Tests.{eq-eqb, eqb-true}
-use Rattle.per.specs.Codec.{Codec, unless}
+use Rattle.per.specs.Codec.{unless}
 use Rattle.per.specs.Formats.{field, dep, via, altCodec, choice, has}
 use Rattle.uplink.specs.declared.interval.Interval.{Interval}
 use Rattle.uplink.specs.declared.interval.Interval.the-variants.{Seconds, Minutes}

@@ -1,18 +1,17 @@
 -- What reads back of a ground PDU: all of it; of a periodic contract all but the moduli that are absent, which read as 0. Assumes nothing.
 use Prim.Native.Nat.{ℕ, _+_, _*_, _/_, _%_, _^_, _≤_, _<_}
 use mathlib.Core.Path.{_≡_, refl, sym, ap, _∙_}
-use mathlib.Core.Bool.{Bool, true, false, not, cond}
+use mathlib.Core.Bool.{Bool, true, false, cond}
 use native.Mathlib.Omega.{arith}
 use lib.Bits.{bitAnd, and-block, and-high, and-zero-r}
-use lib.Dec.{eqb, lit<}
+use lib.Dec.{lit<}
 use borrow.Author.Tests.{ne-eqb}
-use Rattle.per.specs.Codec.{Codec}
 use Rattle.per.specs.Formats.{field, dep, via, only, absent, when, has, num, altCodec, choice}
 use Rattle.uplink.specs.declared.interval.Interval.{Interval}
 use Rattle.uplink.specs.declared.contract.Periodic.{Periodic}
 use Rattle.uplink.specs.declared.Ground.{Ground}
 use Rattle.uplink.specs.declared.Ground.the-variants.{CancelAll, CancelContract, CancelEmergencyAck, DemandContract, EventContract, ModifyEmergency, PeriodicContract, Abort}
-use Rattle.uplink.specs.Interval.{intervalC, fiveMinutes, isFive, sentC, sentBits}
+use Rattle.uplink.specs.Interval.{fiveMinutes, isFive, sentC, sentBits}
 use Rattle.uplink.specs.Table.{periodicC, groundTag, groundAlt, groundC}
 use Rattle.uplink.proofs.Intervals.{interval-norm, low-bits, five-is}
 
@@ -68,12 +67,20 @@ unfolding periodicC via dep field only
 periodic-norm a h =
     let f = isFive (a .interval) in
     let e = a .elements in
-    rw (sent-low f e h, interval-sent f (a .interval) e refl h,
-    when-norm (has 64 (sentBits f e)) 1 255 (a .address), has-sent f 64 e (lit< tt) h,
-    when-norm (has 32 (sentBits f e)) 1 255 (a .profile), has-sent f 32 e (lit< tt) h,
-    when-norm (has 16 (sentBits f e)) 1 255 (a .ground), has-sent f 16 e (lit< tt) h,
-    when-norm (has 8 (sentBits f e)) 1 255 (a .air), has-sent f 8 e (lit< tt) h,
-    when-norm (has 4 (sentBits f e)) 1 255 (a .weather), has-sent f 4 e (lit< tt) h)
+    rw (
+      sent-low f e h,
+      interval-sent f (a .interval) e refl h,
+      when-norm (has 64 (sentBits f e)) 1 255 (a .address),
+      has-sent f 64 e (lit< tt) h,
+      when-norm (has 32 (sentBits f e)) 1 255 (a .profile),
+      has-sent f 32 e (lit< tt) h,
+      when-norm (has 16 (sentBits f e)) 1 255 (a .ground),
+      has-sent f 16 e (lit< tt) h,
+      when-norm (has 8 (sentBits f e)) 1 255 (a .air),
+      has-sent f 8 e (lit< tt) h,
+      when-norm (has 4 (sentBits f e)) 1 255 (a .weather),
+      has-sent f 4 e (lit< tt) h,
+    )
 
 -- every other ground PDU reads back as it is
 pub ground-norm : (g : Ground) → (groundTag g ≡ 6 → ⊥) → groundC .norm g ≡ g

@@ -1,6 +1,6 @@
 -- "How many elements a contract asks for is the number of ones in its presence bits."
 use Prim.Native.Nat.{ℕ, _+_}
-use mathlib.Core.Bool.{Bool, true, false, not}
+use mathlib.Core.Bool.{Bool, not}
 use mathlib.Core.List.{List, [], _∷_}
 use Rattle.per.specs.Bits.{ofBit, toBits}
 use Rattle.uplink.specs.declared.contract.Periodic.{Periodic}

@@ -8,7 +8,7 @@ use native.Mathlib.Omega.{arith}
 use lib.ListN.{length, drop, length-append}
 use lib.Seq.{drop-drop, drop-append-seam}
 use Rattle.per.specs.declared.cursor.Cursor.{Cursor}
-use Rattle.per.specs.Codec.{Codec, Out, out, place, Kept, Own, first, upto}
+use Rattle.per.specs.Codec.{Codec, out, place, Kept, Own}
 use Rattle.per.specs.laws.Codec.{first-0, first-1, first-00, unstuck}
 use Rattle.per.specs.Shapes.{depRun, depChk, depEnc, depNorm, depForm}
 

@@ -10,7 +10,7 @@ use borrow.Author.Tests.{eq-eqb, ne-eqb, eqb-true, leb-true, le-leb}
 use Rattle.per.specs.declared.cursor.Cursor.{Cursor}
 use Rattle.per.specs.Bits.{toBits, numAt}
 use Rattle.per.specs.laws.Bits.{length-toBits, numAt-lt, num-there, num-back}
-use Rattle.per.specs.Codec.{Out, out, place, refuse, Kept, Own}
+use Rattle.per.specs.Codec.{out, place, refuse, Kept, Own}
 use Rattle.per.specs.Field.{Field, settle, readField, fieldBits}
 
 readInvert : {A : Type 0} (b d : Bool) (n : ℕ) (a z : A) (at to : ℕ) (j : Cursor) → (b ≡ true → j .refusal ≡ 0) → (j .refusal ≡ 0 → b ≡ true)

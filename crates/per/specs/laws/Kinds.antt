@@ -1,13 +1,13 @@
 -- The laws of each kind of field, and of lists and choices. Assumes nothing.
-use Prim.Native.Nat.{ℕ, zero, suc, _+_, _-_, _*_, _^_, _≤_, _<_}
+use Prim.Native.Nat.{ℕ, zero, suc, _+_, _-_, _^_, _≤_, _<_}
 use mathlib.Core.Path.{_≡_, refl, sym, ap}
 use mathlib.Core.Bool.{Bool, true, false, cond}
 use native.Mathlib.Omega.{arith}
 use lib.Dec.{eqb, leb, ltb}
 use lib.IntN.{ℤ, pos, negsuc, subℕ}
-use borrow.Author.Tests.{eqb-true, leb-true, le-leb, ltb-true, ltb-false, lt-ltb, le-ltb}
+use borrow.Author.Tests.{eqb-true, leb-true, ltb-true, ltb-false, lt-ltb, le-ltb}
 use Rattle.per.specs.Bits.{ofBit, width}
-use Rattle.per.specs.laws.Bits.{ofBit-lt, width-holds}
+use Rattle.per.specs.laws.Bits.{width-holds}
 use Rattle.per.specs.Codec.{first, unless}
 use Rattle.per.specs.Field.{raised, raisedChk}
 use Rattle.per.specs.laws.Codec.{first-0, first-1, first-00, unless-true, unless-le, unless-lt}

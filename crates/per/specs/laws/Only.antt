@@ -8,7 +8,7 @@ use lib.ListN.{length, drop}
 use lib.Dec.{eqb}
 use borrow.Author.Tests.{eq-eqb, ne-eqb, eqb-true}
 use Rattle.per.specs.declared.cursor.Cursor.{Cursor}
-use Rattle.per.specs.Codec.{Codec, Out, out, place, Kept, Own, first, upto}
+use Rattle.per.specs.Codec.{Codec, Out, out, place, Kept, Own}
 use Rattle.per.specs.laws.Codec.{first-0, first-1, first-00}
 use Rattle.per.specs.Field.{settle}
 use Rattle.per.specs.Shapes.{onlyRun, onlyChk, onlyEnc}

@@ -1,14 +1,14 @@
 -- The laws of the same bits for another type, and of no bits. Assumes nothing.
 use Prim.Native.Nat.{ℕ, _+_, _≤_}
-use mathlib.Core.Path.{_≡_, refl, ap}
+use mathlib.Core.Path.{_≡_, ap}
 use mathlib.Core.Bool.{Bool}
 use mathlib.Core.List.{List, _++_}
 use native.Mathlib.Nat.{add-zero}
 use native.Mathlib.Omega.{arith}
 use lib.ListN.{length, drop}
 use Rattle.per.specs.declared.cursor.Cursor.{Cursor}
-use Rattle.per.specs.Codec.{Codec, Out, out, place, Kept, Own, first, upto}
-use Rattle.per.specs.laws.Codec.{first-0, first-1, first-00}
+use Rattle.per.specs.Codec.{Codec, out, place, Kept, Own}
+use Rattle.per.specs.laws.Codec.{first-0, first-1}
 use Rattle.per.specs.Shapes.{viaRun, viaChk, viaEnc}
 
 module _ {A B : Type 0} (c : Codec A) (to : A → B) (from : B → A) (ok : B → ℕ)

@@ -1,4 +1,3 @@
-use mathlib.Core.Path.{_∙_}
 use native.Mathlib.Omega.{arith}
 use Rattle.uplink.specs.Asked.{askedOf}
 use Rattle.uplink.proofs.Counting.{count-is}

@@ -1,5 +1,4 @@
 use Prim.Native.Nat.{_≤_}
-use mathlib.Core.Path.{_≡_}
 use native.Mathlib.Nat.{le-antisymm}
 use native.Mathlib.Omega.{arith}
 use Rattle.per.proofs.Compose.{after-ext, in-alt, in-choice, nothing, num-most, climb}

@@ -1,5 +1,5 @@
 -- The presence bit of the interval says that it is not 5 minutes. Assumes nothing.
-use Prim.Native.Nat.{ℕ, zero, suc, _+_, _*_, _/_, _%_, _≤_, _<_}
+use Prim.Native.Nat.{ℕ, zero, suc, _*_, _/_, _%_, _≤_, _<_}
 use mathlib.Core.Path.{_≡_, refl, sym, ap, _∙_}
 use mathlib.Core.Bool.{Bool, true, false, not}
 use native.Mathlib.Nat.{mod-eq-of-lt}
@@ -7,7 +7,7 @@ use native.Mathlib.Omega.{arith}
 use lib.Bits.{bitAnd, and-high}
 use lib.Dec.{eqb, leb}
 use borrow.Author.Tests.{eqb-true, eqb-false, leb-true}
-use Rattle.per.specs.Codec.{Codec, first, unless}
+use Rattle.per.specs.Codec.{unless}
 use Rattle.per.specs.laws.Codec.{first-0, first-1, unless-true, unless-le}
 use Rattle.per.specs.Formats.{field, dep, only, absent, when, num, has, maskBad}
 use Rattle.uplink.specs.declared.interval.Interval.{Interval}

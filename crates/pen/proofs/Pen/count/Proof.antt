@@ -1,5 +1,4 @@
 use mathlib.Core.Path.{refl}
-use native.Mathlib.Omega.{arith}
 use Rattle.per.specs.Formats.{count, countField}
 use Rattle.per.specs.laws.Codec.{unless-le, unless-gt}
 use Rattle.pen.proofs.Inks.{inks-kept, field-barred, field-inked}

@@ -1,4 +1,3 @@
-use native.Mathlib.Omega.{arith}
 use Rattle.pen.proofs.Sheets.{deliver-kept, deliver-off, deliver-short, deliver-good}
 use borrow.Author.Needs.{needs}
 use Rattle.pen.proofs.Pen.deliver.Statement.{statement}

@@ -1,5 +1,4 @@
 use mathlib.Core.Path.{refl}
-use native.Mathlib.Omega.{arith}
 use Rattle.per.specs.Formats.{run, runField}
 use Rattle.pen.proofs.Inks.{inks-kept, field-barred, field-inked}
 use Rattle.pen.proofs.Checks.{run-wide, run-high, run-good}

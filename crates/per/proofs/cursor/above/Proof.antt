@@ -1,5 +1,4 @@
 use Rattle.per.proofs.Leaf.{above-empty, above-is}
-use native.Mathlib.Omega.{arith}
 use Rattle.per.proofs.cursor.above.Statement.{statement}
 use Rattle.per.proofs.cursor.above.Tie as tie
 

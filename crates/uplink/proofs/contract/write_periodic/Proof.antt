@@ -1,6 +1,5 @@
 use mathlib.Core.Path.{_≡_, ap, _∙_}
 use mathlib.Core.Bool.{Bool}
-use native.Mathlib.Omega.{arith}
 use Rattle.per.specs.Formats.{field, only, dep}
 use Rattle.per.specs.laws.Codec.{unless-le, unless-gt}
 use Rattle.pen.proofs.Inks.{inks-by, inks-like, like-barred}

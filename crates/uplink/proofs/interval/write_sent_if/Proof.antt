@@ -1,4 +1,3 @@
-use mathlib.Core.Path.{refl}
 use Rattle.pen.proofs.Inks.{inks-there, inks-absent, inks-only}
 use Rattle.uplink.specs.Interval.{intervalC, sentC}
 use Rattle.uplink.proofs.Intervals.{interval-norm}
