@@ -1,0 +1,3 @@
+// One link: the record that a host holds, the check of it, and what time does to its timers.
+pub mod clock;
+pub mod record;
