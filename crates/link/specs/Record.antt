@@ -4,7 +4,7 @@ use mathlib.Core.Bool.{Bool}
 use mathlib.Core.List.{List}
 use Prim.Native.Nat.{ℕ}
 use lib.Dec.{eqb, leb}
-use lib.ListN.{getD}
+use lib.ListN.{getD, replicate}
 use Rattle.moves.specs.Tests.{both, pick, below}
 use Rattle.moves.specs.Names.{DC, EC, PC, EM, IDLE, DC-ACTIVE, CANCEL, MODIFY}
 use Rattle.moves.specs.Watch.{runs}
@@ -49,3 +49,11 @@ liOk li at = pick (eqb li LI-IDLE) (idle at) (pick (eqb li LI-END) (idle at) (le
 
 unfoldable pub good : Link → Bool
 good l = both (statesOk (l .at)) (both (liOk (l .li) (l .at)) (below 9 (timerGood l)))
+
+-- "all IDLE, LI too": the link with no timer running
+unfoldable pub quiet : Link → Link
+quiet l = record { setting = l .setting; left = replicate 9 0; at = replicate 4 IDLE; li = LI-IDLE }
+
+-- the link with LI at another state
+unfoldable pub withLi : Link → ℕ → Link
+withLi l k = record { setting = l .setting; left = l .left; at = l .at; li = k }

@@ -1,4 +1,6 @@
 // What time does to the nine timers, and what stopping them all says.
+use crate::actions::*;
+use crate::record::Link;
 use moves::acts::Acts;
 use moves::acts::none;
 use moves::acts::push_when;
@@ -6,10 +8,7 @@ ghost use mathlib.Core.Path.{_≡_};
 ghost use mathlib.Core.List.{map};
 ghost use Prim.Native.Nat.{_-_};
 ghost use Rattle.moves.specs.Tests.{below};
-ghost use Rattle.link.specs.Clock.{due, notDue, stopped};
-
-// The number of a stop entry is this one and the timer's.
-const STOP: u8 = 16;
+ghost use Rattle.link.specs.Clock.{due, notDue, later, stopped};
 
 fn is_due(n: u32, left: u32) -> bool
     ensures { λ r. ⌜ r ≡ due n left ⌝ }
@@ -51,6 +50,17 @@ pub fn lowered(n: u32, left: [u32; 9]) -> [u32; 9]
         t += 1;
     }
     l
+}
+
+// The link n seconds later, where no timer is due.
+pub fn after(l: Link, n: u32) -> Link
+    ensures { λ r. ⌜ r ≡ later l n ⌝ }
+{
+    let left = l.left;
+    let lower = lowered(n, left);
+    let mut m = l;
+    m.left = lower;
+    m
 }
 
 // The stop entries of the running timers, in watch order.

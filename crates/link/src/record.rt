@@ -3,7 +3,7 @@ use moves::names::*;
 use moves::watch::watched;
 ghost use mathlib.Core.Path.{_≡_};
 ghost use Rattle.moves.specs.Tests.{below};
-ghost use Rattle.link.specs.Record.{timerOk, timerGood, idle, statesOk, liOk, good};
+ghost use Rattle.link.specs.Record.{timerOk, timerGood, idle, statesOk, liOk, good, quiet, withLi};
 
 // LI's states.
 pub const LI_IDLE: u8 = 0;
@@ -109,4 +109,25 @@ pub fn is_good(l: Link) -> bool
         return false;
     }
     timers_ok(l)
+}
+
+// The link with everything IDLE, LI too, and no timer running.
+pub fn quieted(l: Link) -> Link
+    ensures { λ r. ⌜ r ≡ quiet l ⌝ }
+{
+    let setting = l.setting;
+    Link {
+        setting,
+        left: [0; 9],
+        at: [IDLE; 4],
+        li: LI_IDLE,
+    }
+}
+
+pub fn with_li(l: Link, li: u8) -> Link
+    ensures { λ r. ⌜ r ≡ withLi l li ⌝ }
+{
+    let mut m = l;
+    m.li = li;
+    m
 }
