@@ -1,4 +1,4 @@
-use Rattle.text.specs.Page.{after}
+use Rattle.text.proofs.Pages.{after}
 use borrow.Author.Needs.{needs}
 use Rattle.text.proofs.put_octet.Statement.{statement}
 use Rattle.text.proofs.put_octet.Tie as tie
