@@ -40,7 +40,7 @@ fn less(x: u32, n: u32) -> u32
 }
 
 // Each timer's seconds less n, down to 0.
-pub fn lowered(n: u32, left: [u32; 9]) -> [u32; 9]
+fn lowered(n: u32, left: [u32; 9]) -> [u32; 9]
     ensures { λ r. ⌜ r ≡ map (λ x. x - n) left ⌝ }
 {
     let mut l = left;
