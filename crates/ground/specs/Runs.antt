@@ -1,0 +1,70 @@
+-- Every call under one name, and sequences of calls on one link.
+use mathlib.Core.Bool.{Bool, true, false}
+use mathlib.Core.Path.{_≡_}
+use mathlib.Core.List.{List, [], _∷_}
+use Prim.Native.Nat.{ℕ, _+_}
+use lib.Dec.{eqb}
+use Rattle.moves.specs.Tests.{pick}
+use Rattle.link.specs.declared.record.Link.{Link}
+use Rattle.ground.specs.Calls.{elapsed, requested, userAborted, confirmed, arrived, rejected, failed, airAborted, peerAborted, endConfirmed}
+use Rattle.ground.specs.declared.answer.Answer.{Answer}
+use Rattle.ground.specs.declared.call.Call.{Call}
+use Rattle.ground.specs.declared.call.Call.the-variants.{Request, UserAbort, Elapse, StartConfirm, StartRejected, Data, EndConfirm, PeerAbort, AirAbort, Down}
+
+unfoldable pub answered : Link → Call → List ℕ → Answer
+answered l (Request g) s = requested l g
+answered l UserAbort s = userAborted l
+answered l (Elapse n) s = elapsed l n
+answered l StartConfirm s = confirmed l s
+answered l StartRejected s = rejected l
+answered l Data s = arrived l s
+answered l EndConfirm s = endConfirmed l
+answered l PeerAbort s = peerAborted l
+answered l AirAbort s = airAborted l s
+answered l Down s = failed l
+
+-- a call and the octets beside it
+pub record Made : Type 0 where
+  pub call : Call
+  pub octets : List ℕ
+
+abbrev pub reply : Link → Made → Answer
+reply l c = answered l (c .call) (c .octets)
+
+-- the link after a sequence of calls
+unfoldable pub after : Link → List Made → Link
+after l [] = l
+after l (c ∷ cs) = after (reply l c .link) cs
+
+abbrev pub member : ℕ → List ℕ → Bool
+member x [] = false
+member x (y ∷ ys) = pick (eqb x y) true (member x ys)
+
+-- the answer's action list stops or starts the timer t
+unfoldable pub touches : ℕ → Answer → Bool
+touches t a = pick (member (16 + t) (a .said .acts .list)) true (member (32 + t) (a .said .acts .list))
+
+-- the seconds that a call asks for, and those that were accepted
+abbrev pub elapseOf : Call → ℕ
+elapseOf (Request g) = 0
+elapseOf UserAbort = 0
+elapseOf (Elapse n) = n
+elapseOf StartConfirm = 0
+elapseOf StartRejected = 0
+elapseOf Data = 0
+elapseOf EndConfirm = 0
+elapseOf PeerAbort = 0
+elapseOf AirAbort = 0
+elapseOf Down = 0
+
+unfoldable pub seconds : Link → Made → ℕ
+seconds l c = pick (eqb (reply l c .said .refusal) 0) (elapseOf (c .call)) 0
+
+unfoldable pub total : Link → List Made → ℕ
+total l [] = 0
+total l (c ∷ cs) = seconds l c + total (reply l c .link) cs
+
+-- no call of the sequence stops or starts the timer t
+unfoldable pub Untouched : ℕ → Link → List Made → Type 0
+Untouched t l [] = Unit {0}
+Untouched t l (c ∷ cs) = (touches t (reply l c) ≡ false) × Untouched t (reply l c .link) cs
