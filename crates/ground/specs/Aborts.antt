@@ -8,19 +8,19 @@ use Rattle.link.specs.Clock.{stopped}
 use Rattle.link.specs.declared.record.Link.{Link}
 use Rattle.uplink.specs.declared.Ground as ground
 use Rattle.mail.specs.Sent.{sent, letter}
-use Rattle.ground.specs.Answers.{tells, allowed}
+use Rattle.ground.specs.Answers.{ABORT-REQUEST, ABORT-IND, tells, allowed}
 use Rattle.ground.specs.declared.answer.Answer.{Answer}
 use Rattle.ground.specs.declared.abort.Ending.{Ending}
 
 -- "Stop entries for all running timers, an expired one too, in watch order, abort request with ground provider abort n, abort indication n, all IDLE, LI too"
 unfoldable pub aborted : Link → ℕ → Answer
-aborted l n = tells (quiet l) n (pushed (pushed (stopped 9 (l .left)) 4) 6) (letter (ground.the-variants.Abort n) .sent)
+aborted l n = tells (quiet l) n (pushed (pushed (stopped 9 (l .left)) ABORT-REQUEST) ABORT-IND) (letter (ground.the-variants.Abort n) .sent)
 
 -- the entry after the stops, the reason it shows, LI's state then, and the octets that go
-abbrev pub ending : ℕ → ℕ → ℕ → List ℕ → Ending
-ending entry reason li octets = record { entry = entry; reason = reason; li = li; sent = sent octets }
+abbrev pub endsWith : ℕ → ℕ → ℕ → List ℕ → Ending
+endsWith entry reason li octets = record { entry = entry; reason = reason; li = li; sent = sent octets }
 
--- "every abort below ends so as well": the stops, the one entry, all modules IDLE
+-- "every abort below ends so as well", and cancel-all too: the stops, the one entry, all modules IDLE
 unfoldable pub closed : Link → Ending → Answer
 closed l e = tells (withLi (quiet l) (e .li)) (e .reason) (pushed (stopped 9 (l .left)) (e .entry)) (e .sent)
 

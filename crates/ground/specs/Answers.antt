@@ -1,5 +1,5 @@
--- What a call answers: the link after it, and what is said. Actions: 1 start request, 2 data request, 3 end request, 4 abort request, 5 indication, 6 abort
--- indication, 7 peer abort indication, 8 late, 16 and a timer's number its stop, 32 and it its start.
+-- What a call answers: the link after it, and what is said, namely the actions in order, the reason that an abort indication shows, and the octets of the PDU
+-- that goes. No call sends two: the octets belong to the first request among the actions. An indication (5) is of the octets that came with the call.
 use mathlib.Core.Bool.{Bool}
 use mathlib.Core.List.{[]}
 use Prim.Native.Nat.{ℕ}
@@ -11,6 +11,28 @@ use Rattle.link.specs.declared.record.Link.{Link}
 use Rattle.mail.specs.Sent.{sent}
 use Rattle.mail.specs.declared.sent.Sent.{Sent}
 use Rattle.ground.specs.declared.answer.Answer.{Answer}
+
+-- entries of an action list; beside them 5 is an indication, 16 and a timer's number its stop, 32 and it its start
+abbrev pub START-REQUEST : ℕ
+START-REQUEST = 1
+
+abbrev pub DATA-REQUEST : ℕ
+DATA-REQUEST = 2
+
+abbrev pub END-REQUEST : ℕ
+END-REQUEST = 3
+
+abbrev pub ABORT-REQUEST : ℕ
+ABORT-REQUEST = 4
+
+abbrev pub ABORT-IND : ℕ
+ABORT-IND = 6
+
+abbrev pub PEER-ABORT-IND : ℕ
+PEER-ABORT-IND = 7
+
+abbrev pub LATE : ℕ
+LATE = 8
 
 -- "All return the number, no value and no actions; link and lent octets stay."
 abbrev pub refusal : Link → ℕ → Answer

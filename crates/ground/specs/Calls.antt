@@ -20,8 +20,8 @@ use Rattle.link.specs.declared.record.Link.{Link}
 use Rattle.mail.specs.Events.{cancel-all, requestEvent, airEvent, reasonIn}
 use Rattle.mail.specs.Sent.{sent, letter}
 use Rattle.mail.specs.declared.sent.Sent.{Sent}
-use Rattle.ground.specs.Answers.{refusal, tells, quietly, checked, allowed}
-use Rattle.ground.specs.Aborts.{aborted, ending, closedWhen}
+use Rattle.ground.specs.Answers.{START-REQUEST, DATA-REQUEST, END-REQUEST, ABORT-REQUEST, ABORT-IND, PEER-ABORT-IND, LATE, refusal, tells, quietly, checked, allowed}
+use Rattle.ground.specs.Aborts.{aborted, endsWith, closedWhen}
 use Rattle.ground.specs.declared.answer.Answer.{Answer}
 
 -- "An elapse of n seconds, 0 to 86,400: if a running timer has n or fewer left (n at least 1), abort 4; else each running one loses n."
@@ -38,21 +38,21 @@ asked l g li entry =
     (refusal l 1)
 
 -- "Cancel-all in ACTIVE: stop running timers in watch order, all modules IDLE, end request with the PDU, END."
-unfoldable pub cancelled : Link → Answer
-cancelled l = closedWhen l (eqb (l .li) LI-ACTIVE) 1 (record { entry = 3; reason = 0; li = LI-END; sent = letter CancelAll .sent })
+unfoldable pub allCancelled : Link → Answer
+allCancelled l = closedWhen l (eqb (l .li) LI-ACTIVE) 1 (record { entry = END-REQUEST; reason = 0; li = LI-END; sent = letter CancelAll .sent })
 
 -- "IDLE: a contract request goes as a start request, START. Other sends are data requests. Requests in START or END: refusal 1."
 unfoldable pub requested : Link → Ground → Answer
 requested l g =
-    pick (eqb (requestEvent g) cancel-all) (cancelled l)
+    pick (eqb (requestEvent g) cancel-all) (allCancelled l)
     (checked l
-    (pick (eqb (l .li) LI-IDLE) (asked l g LI-START 1) (pick (eqb (l .li) LI-ACTIVE) (asked l g LI-ACTIVE 2) (refusal l 1))))
+    (pick (eqb (l .li) LI-IDLE) (asked l g LI-START START-REQUEST) (pick (eqb (l .li) LI-ACTIVE) (asked l g LI-ACTIVE DATA-REQUEST) (refusal l 1))))
 
 -- "A user abort (START, ACTIVE, END; in IDLE refusal 1): stops, abort request with no PDU, no indication."
 unfoldable pub userAborted : Link → Answer
-userAborted l = closedWhen l (not (eqb (l .li) LI-IDLE)) 1 (ending 4 0 LI-IDLE [])
+userAborted l = closedWhen l (not (eqb (l .li) LI-IDLE)) 1 (endsWith ABORT-REQUEST 0 LI-IDLE [])
 
--- "cancel-emergency, stop the timer, ind, send ack": the one send that data makes
+-- "cancel-emergency, stop the timer, ind, send ack": the one send that data makes. It goes before an end request
 unfoldable pub ackOf : Move → Sent
 ackOf m = pick (m .send) (letter CancelEmergencyAck .sent) (sent [])
 
@@ -60,8 +60,8 @@ ackOf m = pick (m .send) (letter CancelEmergencyAck .sent) (sent [])
 unfoldable pub ended : Link → Move → Answer
 ended l m =
     pick (idle (moved l m .at))
-    (tells (withLi (moved l m) LI-END) 0 (acts (actsOf m 2 ++ (3 ∷ []))) (ackOf m))
-    (tells (moved l m) 0 (acts (actsOf m 2)) (ackOf m))
+    (tells (withLi (moved l m) LI-END) 0 (acts (actsOf m DATA-REQUEST ++ (END-REQUEST ∷ []))) (ackOf m))
+    (tells (moved l m) 0 (acts (actsOf m DATA-REQUEST)) (ackOf m))
 
 -- "Downlink data not listed for a state: abort 3."
 unfoldable pub passed : Link → ℕ → Answer
@@ -76,32 +76,33 @@ taken l (refused n) = aborted l 2
 unfoldable pub confirmed : Link → List ℕ → Answer
 confirmed l s = allowed l (eqb (l .li) LI-START) 2 (taken l (readPdu airC s))
 
--- "ACTIVE: data passes." "END: data is set aside unread as "late""
+-- "END: data is set aside unread as "late""
 unfoldable pub lateData : Link → Answer
-lateData l = tells l 0 (acts (8 ∷ [])) (sent [])
+lateData l = tells l 0 (acts (LATE ∷ [])) (sent [])
 
+-- "ACTIVE: data passes."
 unfoldable pub arrived : Link → List ℕ → Answer
 arrived l s = checked l (pick (eqb (l .li) LI-ACTIVE) (taken l (readPdu airC s)) (pick (eqb (l .li) LI-END) (lateData l) (refusal l 2)))
 
 -- "rejected, abort 5 without an abort request"
 unfoldable pub rejected : Link → Answer
-rejected l = closedWhen l (eqb (l .li) LI-START) 2 (ending 6 5 LI-IDLE [])
+rejected l = closedWhen l (eqb (l .li) LI-START) 2 (endsWith ABORT-IND 5 LI-IDLE [])
 
 -- "From below, in the same states: stops and indication only; reason 0 for a provider failure, the PDU's reason if an aircraft provider abort reads well,
 -- else 6; a peer user's abort is shown as such."
 unfoldable pub failed : Link → Answer
-failed l = closedWhen l (not (eqb (l .li) LI-IDLE)) 2 (ending 6 0 LI-IDLE [])
+failed l = closedWhen l (not (eqb (l .li) LI-IDLE)) 2 (endsWith ABORT-IND 0 LI-IDLE [])
 
 unfoldable pub reasonOf : per.Answer AirPdu → ℕ
 reasonOf (got a) = reasonIn (a .kind)
 reasonOf (refused n) = 6
 
 unfoldable pub airAborted : Link → List ℕ → Answer
-airAborted l s = closedWhen l (not (eqb (l .li) LI-IDLE)) 2 (ending 6 (reasonOf (readPdu airC s)) LI-IDLE [])
+airAborted l s = closedWhen l (not (eqb (l .li) LI-IDLE)) 2 (endsWith ABORT-IND (reasonOf (readPdu airC s)) LI-IDLE [])
 
 unfoldable pub peerAborted : Link → Answer
-peerAborted l = closedWhen l (not (eqb (l .li) LI-IDLE)) 2 (ending 7 0 LI-IDLE [])
+peerAborted l = closedWhen l (not (eqb (l .li) LI-IDLE)) 2 (endsWith PEER-ABORT-IND 0 LI-IDLE [])
 
--- "END: .. end confirm, IDLE."
+-- "END: data is set aside unread as "late" (000 passes it on); end confirm, IDLE."
 unfoldable pub endConfirmed : Link → Answer
 endConfirmed l = allowed l (eqb (l .li) LI-END) 2 (quietly (withLi l LI-IDLE))

@@ -40,7 +40,8 @@ abbrev pub member : ℕ → List ℕ → Bool
 member x [] = false
 member x (y ∷ ys) = pick (eqb x y) true (member x ys)
 
--- the answer's action list stops or starts the timer t
+-- For demand 3's "If a timer has k seconds left, and no call starts or stops it before its accepted elapsed seconds first total k or more": starting and stopping
+-- are read off the action lists that the tables give, accepted seconds off the answers. The answer's action list stops or starts the timer t
 unfoldable pub touches : ℕ → Answer → Bool
 touches t a = pick (member (16 + t) (a .said .acts .list)) true (member (32 + t) (a .said .acts .list))
 

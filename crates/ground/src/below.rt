@@ -29,7 +29,7 @@ ghost use mathlib.Core.List.{[]};
 ghost use Rattle.per.specs.Pdu.{readPdu};
 ghost use Rattle.downlink.specs.Table.{airC};
 ghost use Rattle.link.specs.Record.{LI-IDLE};
-ghost use Rattle.ground.specs.Aborts.{ending};
+ghost use Rattle.ground.specs.Aborts.{endsWith};
 ghost use Rattle.ground.specs.Calls.{ackOf, ended, passed, taken, confirmed, arrived, lateData, reasonOf, peerAborted, airAborted, failed, rejected, endConfirmed};
 
 // The emergency ack, where the move sends.
@@ -117,7 +117,7 @@ pub fn data(l: Link, octets: &[u8]) -> Answer
 }
 
 fn end_shown(entry: u8, reason: u32) -> Ending
-    ensures { λ r. ⌜ r ≡ ending entry reason LI-IDLE [] ⌝ }
+    ensures { λ r. ⌜ r ≡ endsWith entry reason LI-IDLE [] ⌝ }
 {
     let sent = nothing();
     Ending {

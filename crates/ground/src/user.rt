@@ -17,7 +17,7 @@ use mail::sent::write;
 use moves::decide::decide;
 use uplink::Ground;
 ghost use mathlib.Core.Path.{_≡_};
-ghost use Rattle.ground.specs.Calls.{asked, cancelled, requested, userAborted};
+ghost use Rattle.ground.specs.Calls.{asked, allCancelled, requested, userAborted};
 
 // A module's request, with LI then at `li` and `entry` for the PDU: 1 before the refusals of its fields.
 fn ask(l: Link, g: Ground, li: u8, entry: u8) -> Answer
@@ -42,7 +42,7 @@ fn ask(l: Link, g: Ground, li: u8, entry: u8) -> Answer
 }
 
 fn cancel_all(l: Link) -> Answer
-    ensures { λ r. ⌜ r ≡ cancelled l ⌝ }
+    ensures { λ r. ⌜ r ≡ allCancelled l ⌝ }
 {
     let li = l.li;
     let w = write(Ground::CancelAll);

@@ -25,18 +25,18 @@ abbrev pub no-data : ℕ
 no-data = of 4 4
 
 -- request types: 0 event, 1 periodic, 2 demand, 3 cancel event, 4 cancel periodic, 5 modify emergency, 6 cancel all, 7 end forward.
--- "negative ack (demand)", "negative ack (event)" and for PC the same
+-- "negative ack (demand)", "negative ack (event)" and for PC the same; no table lists another, that of a modify neither
 unfoldable pub negativeEvent : ℕ → ℕ
 negativeEvent n = pick (eqb n 0) (of EC negative) (pick (eqb n 1) (of PC negative) (pick (eqb n 2) (of DC dc-negative) no-data))
 
--- "positive ack (event)", "positive ack (cancel event)", for PC the same, and "positive ack (modify, confirm)"
+-- "positive ack (event)", "positive ack (cancel event)", for PC the same, and "positive ack (modify, confirm)"; that of a demand, 6 and 7 are not listed
 unfoldable pub positiveEvent : ℕ → ℕ
 positiveEvent n =
     pick (eqb n 0) (of EC positive)
     (pick (eqb n 1) (of PC positive)
     (pick (eqb n 3) (of EC cancelled) (pick (eqb n 4) (of PC cancelled) (pick (eqb n 5) (of EM em-positive) no-data))))
 
--- "Noncompliance index 0..2: lists of report type, event type, report type and period": of a demand, an event, a periodic contract
+-- "Noncompliance index 0..2: lists of report type* 0..6, event type* 0..10, report type and period* 0..7": of a demand, an event, a periodic contract
 unfoldable pub unmetEvent : ℕ → ℕ
 unmetEvent n = pick (eqb n 0) (of DC dc-noncompliance) (pick (eqb n 1) (of EC noncompliance) (pick (eqb n 2) (of PC noncompliance) no-data))
 

@@ -62,11 +62,11 @@ dcRows =
 unfoldable pub dcMove : ℕ → ℕ → Move
 dcMove s e = look dcRows s e (unlisted e)
 
--- EC and PC: t1 is the timer of a request, tc that of a cancel, w the one that runs in ACTIVE, which is PC2 without an emergency and else none.
+-- EC and PC: t1 is the timer of a request, tc that of a cancel, w the one that runs in ACTIVE: none for EC, PC2 for PC without an emergency, else none.
 -- "IDLE: request, send, start EC1, START-PENDING. ACTIVE: request, send, start EC1, PENDING; cancel, send, start EC2, CANCEL; plain report, ind.
 -- START-PENDING and PENDING: report with ack (ind), positive ack (event) or event noncompliance (confirm), each after stop EC1, to ACTIVE; negative
 -- ack (event), stop, confirm, to IDLE and ACTIVE respectively. PENDING and CANCEL: plain report, ind. CANCEL: positive ack (cancel event), stop EC2,
--- confirm, IDLE." "on entering ACTIVE without an emergency, start PC2 last; a plain report in ACTIVE without an emergency stops PC2, gives ind, starts
+-- confirm, IDLE." "As EC with PC1 and, for cancel, PC3. Besides: on entering ACTIVE without an emergency, start PC2 last; a plain report in ACTIVE without an emergency stops PC2, gives ind, starts
 -- PC2; a request or cancel in ACTIVE first stops PC2 if it runs."
 unfoldable pub contractRows : ℕ → ℕ → ℕ → ℕ → List Row
 contractRows who t1 tc w =
@@ -112,6 +112,7 @@ emMove p s e = look (emRows p) s e (unlisted e)
 abbrev pub pc2Quiet : List ℕ → ℕ
 pc2Quiet at = pick (eqb (getD at EM 0) IDLE) PC2 no-timer
 
+-- "start PC2 if PC is ACTIVE"; and where an emergency begins, at EM-IDLE, "PC2 if it runs" comes to the same by the watch table
 abbrev pub pc2Active : List ℕ → ℕ
 pc2Active at = pick (eqb (getD at PC 0) ACTIVE) PC2 no-timer
 

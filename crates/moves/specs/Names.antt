@@ -90,7 +90,7 @@ dc-negative = 6
 abbrev pub dc-noncompliance : ℕ
 dc-noncompliance = 7
 
--- EC and PC: request, cancel; report with ack, plain report, positive ack, noncompliance, positive ack of the cancel, negative ack
+-- EC and PC (7 is left out, so that no two that are done alike stand side by side): request, cancel; report with ack, plain report, positive ack, noncompliance, positive ack of the cancel, negative ack
 abbrev pub cancel : ℕ
 cancel = 1
 
@@ -112,7 +112,7 @@ cancelled = 9
 abbrev pub negative : ℕ
 negative = 10
 
--- EM: modify; plain report, report with ack, positive ack, cancel-emergency
+-- EM (6 and 8 are left out for the same reason): modify; plain report, report with ack, positive ack, cancel-emergency
 abbrev pub modify : ℕ
 modify = 0
 

@@ -1,4 +1,4 @@
-use Rattle.ground.specs.Calls.{cancelled}
+use Rattle.ground.specs.Calls.{allCancelled}
 use borrow.Author.Needs.{needs}
 use Rattle.ground.proofs.user.cancel_all.Statement.{statement}
 use Rattle.ground.proofs.user.cancel_all.Tie as tie
@@ -10,7 +10,7 @@ close-when-requires : tie.Need-close-when-requires
 close-when-requires c κs = search needs
 
 returns : tie.Need-returns
-unfolding cancelled
+unfolding allCancelled
 returns c = rw (c .close-when .ensures, c .before .before .write .ensures)
 
 pub cancel-all-spec : {M : Type 1} → statement M
