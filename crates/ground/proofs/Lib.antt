@@ -1,2 +1,6 @@
 pub mod Laws
 pub mod Readings
+pub mod Stops
+pub mod Every
+pub mod Demand3
+pub mod Promises

@@ -2,9 +2,11 @@
 use mathlib.Core.Bool.{Bool, true, false}
 use mathlib.Core.Path.{_≡_}
 use mathlib.Core.List.{List, [], _∷_}
-use Prim.Native.Nat.{ℕ, _+_}
+use Prim.Native.Nat.{ℕ, _+_, _≤_}
 use lib.Dec.{eqb}
-use Rattle.moves.specs.Tests.{pick}
+use lib.ListN.{getD}
+use Rattle.moves.specs.Tests.{either, pick}
+use Rattle.moves.specs.Watch.{runs}
 use Rattle.link.specs.declared.record.Link.{Link}
 use Rattle.ground.specs.Calls.{elapsed, requested, userAborted, confirmed, arrived, rejected, failed, airAborted, peerAborted, endConfirmed}
 use Rattle.ground.specs.declared.answer.Answer.{Answer}
@@ -38,12 +40,12 @@ after l (c ∷ cs) = after (reply l c .link) cs
 
 abbrev pub member : ℕ → List ℕ → Bool
 member x [] = false
-member x (y ∷ ys) = pick (eqb x y) true (member x ys)
+member x (y ∷ ys) = either (eqb x y) (member x ys)
 
 -- For demand 3's "If a timer has k seconds left, and no call starts or stops it before its accepted elapsed seconds first total k or more": starting and stopping
 -- are read off the action lists that the tables give, accepted seconds off the answers. The answer's action list stops or starts the timer t
 unfoldable pub touches : ℕ → Answer → Bool
-touches t a = pick (member (16 + t) (a .said .acts .list)) true (member (32 + t) (a .said .acts .list))
+touches t a = either (member (16 + t) (a .said .acts .list)) (member (32 + t) (a .said .acts .list))
 
 -- the seconds that a call asks for, and those that were accepted
 abbrev pub elapseOf : Call → ℕ
@@ -69,3 +71,8 @@ total l (c ∷ cs) = seconds l c + total (reply l c .link) cs
 unfoldable pub Untouched : ℕ → Link → List Made → Type 0
 Untouched t l [] = Unit {0}
 Untouched t l (c ∷ cs) = (touches t (reply l c) ≡ false) × Untouched t (reply l c .link) cs
+
+-- "the running timers are exactly those the watch table names for the present states, each with at least one second left and no more than its setting"
+pub record Watched (l : Link) (t : ℕ) : Type 0 where
+  pub runs-left : runs t (l .at) ≡ true → (1 ≤ getD (l .left) t 0) × (getD (l .left) t 0 ≤ getD (l .setting) t 0)
+  pub else-none : runs t (l .at) ≡ false → getD (l .left) t 0 ≡ 0

@@ -10,7 +10,7 @@ use lib.Dec.{T, leb, eqb, leb→le, le→leb, nleb→lt, eqb→eq}
 use lib.ListN.{length, getD, set, replicate, length-set, List·getD-map, length-map}
 use lib.Seq.{getD-set-same, getD-set-other}
 use borrow.Author.Tests.{eqb-true, eqb-false, le-leb}
-use Rattle.moves.specs.Tests.{both, pick, below}
+use Rattle.moves.specs.Tests.{both, either, pick, below}
 use Rattle.moves.specs.Watch.{runs}
 use Rattle.moves.specs.Moves.{moveOf}
 use Rattle.moves.specs.declared.decide.Move.{Move}
@@ -19,7 +19,7 @@ use Rattle.link.specs.Record.{good, timerGood, timerOk, statesOk, liOk, 
 use Rattle.link.specs.Clock.{due, notDue, later}
 use Rattle.link.specs.Step.{moved, loads}
 use Rattle.link.specs.declared.record.Link.{Link}
-use Rattle.link.proofs.Fits.{either, same, after-move, balanced, fits, moves-fit}
+use Rattle.link.proofs.Fits.{same, after-move, balanced, fits, moves-fit}
 
 -- the lengths of a link's arrays
 pub record Shaped (l : Link) : Type 0 where
