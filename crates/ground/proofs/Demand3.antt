@@ -4,12 +4,12 @@ use mathlib.Core.Bool.{Bool, true, false, not}
 use mathlib.Core.List.{List, [], _∷_, _++_, append-nil}
 use Prim.Native.Nat.{ℕ, _+_, _-_, _<_, _≤_}
 use native.Mathlib.Omega.{arith}
-use native.Mathlib.Nat.{add-zero, le-trans}
+use native.Mathlib.Nat.{add-zero}
 use lib.Dec.{T, leb, ltb, eqb, leb→le, nleb→lt, eqb→eq, lit<}
 use lib.ListN.{length, getD, replicate}
 use borrow.Author.Tests.{eqb-true, lt-ltb, le-leb, not-true}
 use Rattle.moves.specs.Tests.{both, either, pick, below}
-use Rattle.moves.specs.Names.{EC, PC, EM, IDLE, ACTIVE, EC1, EC2, PC2}
+use Rattle.moves.specs.Names.{EC, ACTIVE, EC1, EC2}
 use Rattle.moves.specs.Watch.{runs}
 use Rattle.moves.specs.Moves.{moveOf}
 use Rattle.moves.specs.Acts.{acts}
@@ -23,13 +23,12 @@ use Rattle.link.specs.declared.record.Link.{Link}
 use Rattle.link.proofs.Laws.{below-fails}
 use Rattle.link.proofs.Fits.{event-no-clock}
 use Rattle.link.proofs.Keeps.{Shaped, Sound, good-states, good-timer, timer-parts, left-after, left-later, quiet-good, quiet-shaped, later-good, later-shaped, li-good, li-shaped, went-sound}
-use Rattle.ground.specs.Answers.{refusal, tells, quietly}
+use Rattle.ground.specs.Answers.{tells}
 use Rattle.ground.specs.Aborts.{stopsOf, aborted, closed}
 use Rattle.ground.specs.Fresh.{settingOk, fresh}
 use Rattle.ground.specs.Calls.{elapsed, lateData}
 use Rattle.ground.specs.Runs.{answered, Made, reply, after, member, touches, seconds, total, Untouched, Watched}
 use Rattle.ground.specs.declared.answer.Answer.{Answer}
-use Rattle.ground.specs.declared.abort.Ending.{Ending}
 use Rattle.ground.specs.declared.call.Call.the-variants.{Elapse}
 use Rattle.ground.proofs.Laws.{fresh-good}
 use Rattle.ground.proofs.Every.{eq-T, T-eq, Kinds, every}

@@ -1,26 +1,20 @@
 -- Laws of the calls' parts. Assumes nothing.
-use mathlib.Core.Path.{_≡_, refl, sym, ap, subst, _∙_}
+use mathlib.Core.Path.{_≡_, refl}
 use mathlib.Core.Bool.{Bool, true, false, not}
-use mathlib.Core.List.{List, [], _∷_, _++_}
+use mathlib.Core.List.{List, _++_}
 use Prim.Native.Nat.{ℕ, zero, suc, _+_, _<_, _≤_}
 use native.Mathlib.Omega.{arith}
 use native.Mathlib.Nat.{le-refl}
 use borrow.Author.Tests.{eq-eqb}
 use lib.Dec.{T, leb, ltb, eqb, eqb→eq}
 use lib.ListN.{length, getD, replicate, length-append}
-use Rattle.per.specs.Pdu as per
-use Rattle.per.specs.Pdu.{got, refused}
-use Rattle.downlink.specs.declared.Air.{Air}
-use Rattle.downlink.specs.declared.AirPdu.{AirPdu}
-use Rattle.moves.specs.Tests.{both, pick, below}
+use Rattle.moves.specs.Tests.{both, below}
 use Rattle.moves.specs.Watch.{runs}
 use Rattle.moves.proofs.Laws.{below-at}
 use Rattle.moves.specs.declared.decide.Move.{Move}
 use Rattle.link.specs.Record.{good, timerGood, timerOk, statesOk, liOk, idle}
 use Rattle.link.specs.Step.{one, actsOf}
-use Rattle.link.specs.declared.record.Link.{Link}
 use Rattle.link.proofs.Keeps.{quiet-test}
-use Rattle.mail.specs.Events.{airEvent, reasonIn}
 use Rattle.ground.specs.Fresh.{settingOk, fresh}
 
 both-true : (a : Bool) → both a true ≡ a

@@ -1,10 +1,9 @@
 -- What holds of every call on every link, and the desk's question. Assumes nothing.
 use mathlib.Core.Path.{_≡_, refl, sym, subst, ap, _∙_}
 use mathlib.Core.Bool.{Bool, true, false}
-use mathlib.Core.List.{List, [], _∷_, _++_}
+use mathlib.Core.List.{List, [], _∷_}
 use Prim.Native.Nat.{ℕ, zero, suc, _+_, _<_, _≤_}
 use native.Mathlib.Omega.{arith}
-use native.Mathlib.Nat.{le-refl}
 use lib.Dec.{T, leb, ltb, eqb, ltb→lt, lit<}
 use lib.ListN.{length, getD, set, length-append}
 use Rattle.moves.specs.Tests.{pick, below}

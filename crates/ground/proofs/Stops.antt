@@ -8,14 +8,13 @@ use native.Mathlib.Nat.{not-suc-le-zero, le-of-suc-le-suc, eq-or-lt-of-le, le-re
 use lib.Dec.{T, leb, eqb, leb→le, eqb→eq}
 use lib.ListN.{length, getD, length-append}
 use borrow.Author.Tests.{eq-eqb}
-use Rattle.moves.specs.Tests.{both, either, pick}
+use Rattle.moves.specs.Tests.{either, pick}
 use Rattle.moves.specs.Watch.{runs}
 use Rattle.moves.specs.Acts.{acts, pushed}
 use Rattle.moves.specs.declared.acts.Acts.{Acts}
 use Rattle.moves.proofs.Laws.{cases}
 use Rattle.link.specs.Record.{good, timerGood, timerOk}
 use Rattle.link.specs.Clock.{stopped}
-use Rattle.link.specs.Step.{one}
 use Rattle.link.specs.declared.record.Link.{Link}
 use Rattle.link.proofs.Fits.{states-test, all-states}
 use Rattle.link.proofs.Pushes.{push-acts}

@@ -5,9 +5,9 @@ use mathlib.Core.Bool.{Bool, true, false}
 use mathlib.Core.List.{List, [], _++_}
 use native.Mathlib.Omega.{arith}
 use borrow.Author.Tests.{le-leb}
-use lib.Dec.{T, leb}
-use lib.ListN.{length, replicate, drop, length-replicate}
-use Rattle.per.specs.Codec.{first, unless}
+use lib.Dec.{T}
+use lib.ListN.{length, replicate, drop}
+use Rattle.per.specs.Codec.{first}
 use Rattle.per.specs.Pdu.{encode}
 use Rattle.per.proofs.RoundTrip.{length-encode}
 use Rattle.pen.specs.declared.Written.{Written}
@@ -18,7 +18,6 @@ use Rattle.uplink.specs.Table.{groundC}
 use Rattle.uplink.proofs.Bounds.{ground-most}
 use Rattle.pdu.specs.Answers.{Sends}
 use Rattle.mail.specs.Sent.{sent, letterOf, letter}
-use Rattle.mail.specs.declared.sent.Letter.{Letter}
 
 drop-blank : (n m : ℕ) → drop {A = ℕ} n (replicate m 0) ≡ replicate (m - n) 0
 drop-blank zero m =
