@@ -1,4 +1,6 @@
-// Text on lent octets: words and hexadecimal octets in lower case; and writing such text onto a lent page.
+// Text on lent octets: words, hexadecimal octets in lower case, whole numbers; and writing such text onto a lent page.
+pub mod numbers;
+
 ghost use mathlib.Core.Path.{_≡_};
 ghost use mathlib.Core.Bool.{true, false};
 ghost use mathlib.Core.List.{[], _∷_};
