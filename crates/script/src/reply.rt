@@ -1,0 +1,112 @@
+// The answer to one line of a script.
+use crate::line::Told;
+use crate::line::call_of;
+use crate::line::least;
+use crate::said::put_refused;
+use crate::said::put_said;
+use crate::words::SET;
+use crate::words::word_of;
+use ground::call::answer;
+use ground::fresh::open;
+use link::record::Link;
+use text::numbers::parse_nine;
+use text::put_text;
+use text::word_end;
+ghost use mathlib.Core.Path.{_≡_};
+ghost use Prim.Native.Nat.{_≤_};
+ghost use lib.ListN.{length};
+ghost use Rattle.text.specs.Page.{page};
+ghost use Rattle.script.specs.Lines.{askedBy};
+ghost use Rattle.script.specs.Replies.{refusedReply, playReply, setReply, lineReply, Replies};
+
+// The box at the bench: `ready` once it has its settings, and its link from then on.
+pub struct Bench {
+    pub ready: bool,
+    pub link: Link,
+}
+
+// The box after a line, and the place of the pen after its text.
+pub struct Replied {
+    pub bench: Bench,
+    pub at: usize,
+}
+
+fn refuse_line(b: Bench, n: u8, out: &mut [u8], at: usize) -> Replied
+    ensures { λ r. ⌜ Replies (refusedReply b n) (page (now (out .entry)) at) (r .bench) (page (now (out .exit)) (r .at)) ⌝ }
+{
+    let a = put_refused(out, at, n);
+    Replied { bench: b, at: a }
+}
+
+// Room for the octets of the longest line. Only its length is stated: its octets are written before they are read.
+fn blank() -> [u8; 2048]
+    ensures { λ r. ⌜ 2048 ≡ length r ⌝ }
+{
+    [0; 2048]
+}
+
+// A line for a box that has its settings.
+fn play(link: Link, w: u8, tail: &[u8], out: &mut [u8], at: usize) -> Replied
+    requires { ⌜ length (now tail) ≤ 4096 ⌝ }
+    ensures { λ r. ⌜ Replies (playReply link (askedBy w (now (tail .entry)))) (page (now (out .entry)) at) (r .bench) (page (now (out .exit)) (r .at)) ⌝ }
+{
+    let mut octets = blank();
+    let told = call_of(w, tail, &mut octets);
+    let Told::Asks(call, n) = told else {
+        return refuse_line(Bench { ready: true, link }, 17, out, at);
+    };
+    let m = least(n, 2048);
+    let a = answer(link, call, &octets[..m]);
+    let next = a.link;
+    let said = a.said;
+    let b = put_said(out, at, said, &octets[..m]);
+    Replied {
+        bench: Bench {
+            ready: true,
+            link: next,
+        },
+        at: b,
+    }
+}
+
+// A line with the settings, for a box that has none.
+fn set_line(b: Bench, tail: &[u8], out: &mut [u8], at: usize) -> Replied
+    ensures { λ r. ⌜ Replies (setReply b (now (tail .entry))) (page (now (out .entry)) at) (r .bench) (page (now (out .exit)) (r .at)) ⌝ }
+{
+    let nine = parse_nine(tail);
+    let good = nine.good;
+    if !good {
+        return refuse_line(b, 17, out, at);
+    }
+    let list = nine.list;
+    let o = open(list);
+    let refusal = o.refusal;
+    if refusal != 0 {
+        return refuse_line(b, refusal, out, at);
+    }
+    let link = o.link;
+    let a = put_text(out, at, b"ok");
+    Replied {
+        bench: Bench { ready: true, link },
+        at: a,
+    }
+}
+
+// One line, without its number and its end.
+pub fn answer_line(b: Bench, line: &[u8], out: &mut [u8], at: usize) -> Replied
+    ensures { λ r. ⌜ Replies (lineReply b (now (line .entry))) (page (now (out .entry)) at) (r .bench) (page (now (out .exit)) (r .at)) ⌝ }
+{
+    if 4096 < line.len() {
+        return refuse_line(b, 17, out, at);
+    }
+    let e = word_end(line);
+    let w = word_of(&line[..e]);
+    let link = b.link;
+    if b.ready {
+        return play(link, w, &line[e..], out, at);
+    }
+    if w == SET {
+        return set_line(b, &line[e..], out, at);
+    }
+    refuse_line(b, 17, out, at)
+}
