@@ -2,7 +2,7 @@
 use mathlib.Core.Bool.{true, false}
 use mathlib.Core.Path.{_≡_}
 use mathlib.Core.List.{List}
-use Prim.Native.Nat.{ℕ}
+use Prim.Native.Nat.{ℕ, _≤_}
 use lib.Dec.{eqb, ltb}
 use lib.ListN.{length, take, drop}
 use Rattle.text.specs.Text.{pick, wordEnd}
@@ -52,7 +52,8 @@ wordReply b w tail = pick (b .ready) (playReply (b .link) (askedBy w tail)) (pic
 unfoldable pub lineReply : Bench → List ℕ → Reply
 lineReply b line = pick (ltb 4096 (length line)) (refusedReply b 17) (wordReply b (wordOf (take (wordEnd line) line)) (drop (wordEnd line) line))
 
--- what the code gives: the box, and the text on the page
+-- what the code gives: the box, and the text on the page, which is never long
 pub record Replies (x : Reply) (p : Page) (b : Bench) (q : Page) : Type 0 where
   pub bench-is : b ≡ x .bench
   pub text-is : Writes p (x .text) q
+  pub short : length (x .text) ≤ 34000

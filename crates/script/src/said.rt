@@ -7,7 +7,8 @@ use text::put_decimal;
 use text::put_hex;
 use text::put_text;
 ghost use mathlib.Core.Path.{_≡_};
-ghost use lib.ListN.{take};
+ghost use Prim.Native.Nat.{_≤_};
+ghost use lib.ListN.{length, take};
 ghost use Rattle.text.specs.Page.{page, Writes};
 ghost use Rattle.script.specs.Says.{spaced, timerText, timerEntry, entryText, restOf, entriesOf, refusedText, saidText};
 
@@ -124,7 +125,7 @@ pub(crate) fn put_refused(out: &mut [u8], at: usize, n: u8) -> usize
 
 // An answer to a call with which the octets `came` came.
 pub fn put_said(out: &mut [u8], at: usize, said: Said, came: &[u8]) -> usize
-    ensures { λ r. ⌜ Writes (page (now (out .entry)) at) (saidText said (now (came .entry))) (page (now (out .exit)) r) ⌝ }
+    ensures { λ r. ⌜ Writes (page (now (out .entry)) at) (saidText said (now (came .entry))) (page (now (out .exit)) r) × (length (now (came .entry)) ≤ 2048 → length (saidText said (now (came .entry))) ≤ 33000) ⌝ }
 {
     let refusal = said.refusal;
     if refusal != 0 {

@@ -1,4 +1,14 @@
 use mathlib.Core.Path.{refl, sym, _∙_}
+use Prim.Native.Nat.{_-_, _≤_}
+use lib.ListN.{length, length-take}
+use Rattle.script.specs.Lines.{heard}
+use Rattle.script.specs.Replies.{answerReply, playReply}
+use Rattle.script.proofs.Hearing.{take-least}
+use lib.ListN.{length-take}
+use native.Mathlib.Nat.{le-trans}
+use lib.Dec.{lit≤}
+use native.Mathlib.Nat.{min-le-left}
+use mathlib.Core.Path.{refl, sym, _∙_}
 use Prim.Native.Nat.{_-_}
 use Rattle.script.specs.Lines.{heard}
 use Rattle.script.specs.Replies.{answerReply, playReply}
@@ -65,7 +75,7 @@ same-length-2 c = search needs
 
 returns-2 : tie.Need-returns-2
 unfolding playReply heard answerReply
-returns-2 c = rw (← c .before .before .before .before .before .before .before .before .before .before .before .before .before .before .call-of .ensures, c .before .before .before .before .before .before .before .before .before .before .before .told .given .1, ← take-least (c .before .before .before .before .before .before .before .before .before .before .before .told .given .0 .1 .0) 2048 (c .before .before .before .before .before .before .before .before .before .before .before .before .before .before .call-of .last .1 .1 .0) (c .before .before .before .before .before .before .before .before .before .before .before .before .before .before .call-of .kept .1 .1 .0 ∙ sym (c .before .before .before .before .before .before .before .before .before .before .before .before .before .before .before .before .blank .ensures)), ← c .before .before .before .before .before .before .before .before .before .least .ensures .1, ← c .before .before .before .before .before .before .before .answer .ensures) (record { bench-is = refl; text-is = c .before .before .put-said .ensures })
+returns-2 c = rw (← c .before .before .before .before .before .before .before .before .before .before .before .before .before .before .call-of .ensures, c .before .before .before .before .before .before .before .before .before .before .before .told .given .1, ← take-least (c .before .before .before .before .before .before .before .before .before .before .before .told .given .0 .1 .0) 2048 (c .before .before .before .before .before .before .before .before .before .before .before .before .before .before .call-of .last .1 .1 .0) (c .before .before .before .before .before .before .before .before .before .before .before .before .before .before .call-of .kept .1 .1 .0 ∙ sym (c .before .before .before .before .before .before .before .before .before .before .before .before .before .before .before .before .blank .ensures)), ← c .before .before .before .before .before .before .before .before .before .least .ensures .1, ← c .before .before .before .before .before .before .before .answer .ensures) (record { bench-is = refl; text-is = c .before .before .put-said .ensures .0; short = le-trans (c .before .before .put-said .ensures .1 (omega (arith, c .before .before .before .before .before .before .before .before .before .least .ensures .0, length-take (c .before .before .before .before .before .before .before .before .before .least .result) (c .before .before .before .before .before .before .before .before .before .before .before .before .before .before .call-of .last .1 .1 .0), min-le-left (c .before .before .before .before .before .before .before .before .before .least .result) (length (c .before .before .before .before .before .before .before .before .before .before .before .before .before .before .call-of .last .1 .1 .0))))) (lit≤ tt) })
 
 pub play-spec : {M : Type 1} → statement M
 play-spec =

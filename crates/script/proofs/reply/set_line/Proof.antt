@@ -1,5 +1,10 @@
 use borrow.Author.Tests.{not-true, not-false, eq-eqb, ne-eqb}
 use mathlib.Core.Path.{refl}
+use Prim.Native.Nat.{_-_, _≤_}
+use Rattle.script.specs.Replies.{openReply, setReply}
+use lib.Dec.{lit≤}
+use borrow.Author.Tests.{not-true, not-false, eq-eqb, ne-eqb}
+use mathlib.Core.Path.{refl}
 use Prim.Native.Nat.{_-_}
 use Rattle.script.specs.Replies.{openReply, setReply}
 use borrow.Author.Tests.{not-true, not-false, eq-eqb, ne-eqb}
@@ -47,7 +52,7 @@ same-length-3 c = search needs
 
 returns-3 : tie.Need-returns-3
 unfolding setReply openReply
-returns-3 c = rw (← c .before .before .before .before .before .before .before .before .before .before .parse-nine .ensures, not-false (c .before .before .before .before .before .before .before .before .before .before .parse-nine .result .good) (c .before .before .before .before .before .before .before .before .before .if1 .left), ← c .before .before .before .before .before .before .before .«open» .ensures, eq-eqb _ 0 (c .before .before .before .before .before .before .if2 .left)) (record { bench-is = refl; text-is = c .before .before .put-text .ensures })
+returns-3 c = rw (← c .before .before .before .before .before .before .before .before .before .before .parse-nine .ensures, not-false (c .before .before .before .before .before .before .before .before .before .before .parse-nine .result .good) (c .before .before .before .before .before .before .before .before .before .if1 .left), ← c .before .before .before .before .before .before .before .«open» .ensures, eq-eqb _ 0 (c .before .before .before .before .before .before .if2 .left)) (record { bench-is = refl; text-is = c .before .before .put-text .ensures; short = lit≤ tt })
 
 pub set-line-spec : {M : Type 1} → statement M
 set-line-spec =
