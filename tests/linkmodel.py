@@ -1,0 +1,476 @@
+"""A model of the ground side of one link, written from page 01 alone.
+
+It shares nothing with the box it is compared with but the page, and reads PDUs with percoder.py.
+First the tables of 01, as data in the page's order with its words above each group; below them
+the model that plays them.
+
+    linkmodel.py < script > trace
+    trace(script octets) -> trace octets
+"""
+
+import dataclasses
+import functools
+import operator
+import re
+import sys
+
+import percoder
+
+MODULES = ('DC', 'EC', 'PC', 'EM')
+
+# Events of the tables: requests are `req/` and the ground PDU, the rest are aircraft PDUs. `+ack` is a
+# report with a positive ack, behind `/` stand the request type, the noncompliance or the contract.
+REQUEST_TYPES = ('event', 'periodic', 'demand', 'cancel-event', 'cancel-periodic', 'modify-emergency', 'cancel-all',
+                 'end-forward')
+REPORTS = ('demand-report', 'emergency', 'event-report', 'periodic-report')
+DOWNLINK = (['cancel-emergency', 'provider-abort'] + list(REPORTS) + [name + '+ack' for name in REPORTS]
+            + ['negative-ack/' + name for name in REQUEST_TYPES] + ['positive-ack/' + name for name in REQUEST_TYPES]
+            + ['noncompliance/' + name for name in ('demand', 'event', 'periodic')])
+
+# What LI is asked for by `req`; cancel-emergency-ack and provider abort are no request (01, script words).
+REQUESTS = {
+    'req/demand-contract': 'contract',
+    'req/event-contract': 'contract',
+    'req/periodic-contract': 'contract',
+    'req/cancel-contract/event': 'change',
+    'req/cancel-contract/periodic': 'change',
+    'req/modify-emergency': 'change',
+    'req/cancel-all': 'cancel-all',
+    'req/cancel-emergency-ack': 'no request',
+    'req/provider-abort': 'no request',
+}
+
+# What the user asks: refusal 1 where it is not listed. The rest are link primitives: refusal 2.
+ASKED = ('req', 'user-abort')
+
+# Ground tables: module, states, event, what is done in turn, next state. Confirms are shown as `ind` (01,
+# answers). "Downlink data not listed for a state: abort 3. Requests not listed: refusal 1."
+ROWS = [
+    # DC. "IDLE: request, send, start DC1, PENDING."
+    ('DC', 'IDLE', 'req/demand-contract', 'send, start DC1', 'PENDING'),
+    # "PENDING: report with ack, stop DC1, report ind, IDLE; negative ack (demand), stop, confirm, IDLE; demand
+    # noncompliance, stop, confirm, start DC2, ACTIVE."
+    ('DC', 'PENDING', 'demand-report+ack', 'stop DC1, ind', 'IDLE'),
+    ('DC', 'PENDING', 'negative-ack/demand', 'stop DC1, ind', 'IDLE'),
+    ('DC', 'PENDING', 'noncompliance/demand', 'stop DC1, ind, start DC2', 'ACTIVE'),
+    # "ACTIVE: report without ack, stop DC2, ind, IDLE."
+    ('DC', 'ACTIVE', 'demand-report', 'stop DC2, ind', 'IDLE'),
+
+    # EC. "IDLE: request, send, start EC1, START-PENDING."
+    ('EC', 'IDLE', 'req/event-contract', 'send, start EC1', 'START-PENDING'),
+    # "ACTIVE: request, send, start EC1, PENDING; cancel, send, start EC2, CANCEL; plain report, ind."
+    ('EC', 'ACTIVE', 'req/event-contract', 'send, start EC1', 'PENDING'),
+    ('EC', 'ACTIVE', 'req/cancel-contract/event', 'send, start EC2', 'CANCEL'),
+    ('EC', 'ACTIVE', 'event-report', 'ind', 'ACTIVE'),
+    # "START-PENDING and PENDING: report with ack (ind), positive ack (event) or event noncompliance (confirm), each
+    # after stop EC1, to ACTIVE; negative ack (event), stop, confirm, to IDLE and ACTIVE respectively."
+    ('EC', 'START-PENDING PENDING', 'event-report+ack', 'stop EC1, ind', 'ACTIVE'),
+    ('EC', 'START-PENDING PENDING', 'positive-ack/event', 'stop EC1, ind', 'ACTIVE'),
+    ('EC', 'START-PENDING PENDING', 'noncompliance/event', 'stop EC1, ind', 'ACTIVE'),
+    ('EC', 'START-PENDING', 'negative-ack/event', 'stop EC1, ind', 'IDLE'),
+    ('EC', 'PENDING', 'negative-ack/event', 'stop EC1, ind', 'ACTIVE'),
+    # "PENDING and CANCEL: plain report, ind."
+    ('EC', 'PENDING', 'event-report', 'ind', 'PENDING'),
+    ('EC', 'CANCEL', 'event-report', 'ind', 'CANCEL'),
+    # "CANCEL: positive ack (cancel event), stop EC2, confirm, IDLE."
+    ('EC', 'CANCEL', 'positive-ack/cancel-event', 'stop EC2, ind', 'IDLE'),
+
+    # PC. "As EC with PC1 and, for cancel, PC3. Besides: on entering ACTIVE without an emergency, start PC2 last; a
+    # plain report in ACTIVE without an emergency stops PC2, gives ind, starts PC2; a request or cancel in ACTIVE
+    # first stops PC2 if it runs."
+    ('PC', 'IDLE', 'req/periodic-contract', 'send, start PC1', 'START-PENDING'),
+    ('PC', 'ACTIVE', 'req/periodic-contract', 'stop PC2 if it runs, send, start PC1', 'PENDING'),
+    ('PC', 'ACTIVE', 'req/cancel-contract/periodic', 'stop PC2 if it runs, send, start PC3', 'CANCEL'),
+    ('PC', 'ACTIVE', 'periodic-report', 'stop PC2 without an emergency, ind, start PC2 without an emergency', 'ACTIVE'),
+    ('PC', 'START-PENDING PENDING', 'periodic-report+ack', 'stop PC1, ind, start PC2 without an emergency', 'ACTIVE'),
+    ('PC', 'START-PENDING PENDING', 'positive-ack/periodic', 'stop PC1, ind, start PC2 without an emergency', 'ACTIVE'),
+    ('PC', 'START-PENDING PENDING', 'noncompliance/periodic', 'stop PC1, ind, start PC2 without an emergency', 'ACTIVE'),
+    ('PC', 'START-PENDING', 'negative-ack/periodic', 'stop PC1, ind', 'IDLE'),
+    ('PC', 'PENDING', 'negative-ack/periodic', 'stop PC1, ind, start PC2 without an emergency', 'ACTIVE'),
+    ('PC', 'PENDING', 'periodic-report', 'ind', 'PENDING'),
+    ('PC', 'CANCEL', 'periodic-report', 'ind', 'CANCEL'),
+    ('PC', 'CANCEL', 'positive-ack/cancel-periodic', 'stop PC3, ind', 'IDLE'),
+
+    # EM. "IDLE: plain emergency report, stop PC2 if it runs, ind, start EM1, ACTIVE."
+    ('EM', 'IDLE', 'emergency', 'stop PC2 if it runs, ind, start EM1', 'ACTIVE'),
+    # "ACTIVE: modify, stop EM1, send, start EM2, MODIFY; plain report, stop EM1, ind, start EM1."
+    ('EM', 'ACTIVE', 'req/modify-emergency', 'stop EM1, send, start EM2', 'MODIFY'),
+    ('EM', 'ACTIVE', 'emergency', 'stop EM1, ind, start EM1', 'ACTIVE'),
+    # "MODIFY: plain report, ind; report with ack (ind) or positive ack (modify, confirm), stop EM2, that, start EM1,
+    # ACTIVE."
+    ('EM', 'MODIFY', 'emergency', 'ind', 'MODIFY'),
+    ('EM', 'MODIFY', 'emergency+ack', 'stop EM2, ind, start EM1', 'ACTIVE'),
+    ('EM', 'MODIFY', 'positive-ack/modify-emergency', 'stop EM2, ind, start EM1', 'ACTIVE'),
+    # "ACTIVE, MODIFY: cancel-emergency, stop the timer, ind, send ack, start PC2 if PC is ACTIVE, IDLE."
+    ('EM', 'ACTIVE', 'cancel-emergency', 'stop EM1, ind, send ack, start PC2 if PC is ACTIVE', 'IDLE'),
+    ('EM', 'MODIFY', 'cancel-emergency', 'stop EM2, ind, send ack, start PC2 if PC is ACTIVE', 'IDLE'),
+]
+
+# LI: states, call, what is done in turn, next state.
+LI_ROWS = [
+    # "IDLE: a contract request goes as a start request, START. Other sends are data requests. Requests in START or
+    # END: refusal 1."
+    ('IDLE', 'contract', 'request as start-req', 'START'),
+    ('ACTIVE', 'contract', 'request as data-req', 'ACTIVE'),
+    ('ACTIVE', 'change', 'request as data-req', 'ACTIVE'),
+    # "START: accepted start confirm passes its data, then ACTIVE; rejected, abort 5 without an abort request.
+    # ACTIVE: data passes. After confirm or data without an abort, if all four modules are IDLE, one end request is
+    # added at the end, END."
+    ('START', 'start-cnf', 'pass, end-req if all IDLE', 'ACTIVE'),
+    ('START', 'start-rej', 'stops, ind abort cannot establish contact, modules IDLE', 'IDLE'),
+    ('ACTIVE', 'data', 'pass, end-req if all IDLE', 'ACTIVE'),
+    # "Cancel-all in ACTIVE: stop running timers in watch order, all modules IDLE, end request with the PDU, END."
+    ('ACTIVE', 'cancel-all', 'stops, modules IDLE, end-req PDU', 'END'),
+    # "END: data is set aside unread as "late"; end confirm, IDLE. Link primitives not listed: refusal 2."
+    ('END', 'data', 'late', 'END'),
+    ('END', 'end-cnf', '', 'IDLE'),
+    # Abort rule. "A user abort (START, ACTIVE, END; in IDLE refusal 1): stops, abort request with no PDU, no
+    # indication."
+    ('START ACTIVE END', 'user-abort', 'stops, abort-req, modules IDLE', 'IDLE'),
+    # "From below, in the same states: stops and indication only; reason 0 for a provider failure, the PDU's reason if
+    # an aircraft provider abort reads well, else 6; a peer user's abort is shown as such."
+    ('START ACTIVE END', 'down', 'stops, ind abort provider failure, modules IDLE', 'IDLE'),
+    ('START ACTIVE END', 'air-abort', 'stops, ind abort of the PDU, modules IDLE', 'IDLE'),
+    ('START ACTIVE END', 'peer-abort', 'stops, ind peer-abort, modules IDLE', 'IDLE'),
+]
+
+# "Stop entries for all running timers, an expired one too, in watch order, abort request with ground provider abort n,
+# abort indication n, all IDLE, LI too; every abort below ends so as well."
+ABORT = 'stops, abort-req {}, ind abort {}, modules IDLE'
+
+# "0..7 as in 003 (2 invalid PDU, 3 sequence error, 4 timer expiry, 5 cannot establish contact, 6 undefined)", and
+# "reason 0 for a provider failure".
+REASONS = {'provider failure': 0, 'invalid PDU': 2, 'sequence error': 3, 'timer expiry': 4,
+           'cannot establish contact': 5, 'undefined': 6}
+
+# "In this order: DC1 DC-PENDING; DC2 DC-ACTIVE; EC1 EC-START-PENDING, EC-PENDING; EC2 EC-CANCEL; PC1 PC-START-PENDING,
+# PC-PENDING; PC2 PC-ACTIVE with EM-IDLE; PC3 PC-CANCEL; EM1 EM-ACTIVE; EM2 EM-MODIFY." Timer, states, with.
+WATCH = [
+    ('DC1', ('DC-PENDING',), None),
+    ('DC2', ('DC-ACTIVE',), None),
+    ('EC1', ('EC-START-PENDING', 'EC-PENDING'), None),
+    ('EC2', ('EC-CANCEL',), None),
+    ('PC1', ('PC-START-PENDING', 'PC-PENDING'), None),
+    ('PC2', ('PC-ACTIVE',), 'EM-IDLE'),
+    ('PC3', ('PC-CANCEL',), None),
+    ('EM1', ('EM-ACTIVE',), None),
+    ('EM2', ('EM-MODIFY',), None),
+]
+
+# Settings are 1..86,400, an elapse is at most 86,400, a number fits 32 bits, a line has at most 4,096 octets.
+LIMITS = {'least setting': 1, 'setting': 86400, 'elapse': 86400, 'number': 2 ** 32 - 1, 'line': 4096}
+
+# "Order. Calls: 17, 3, 29, 4, 1 or 2, then fields." Each is a function of Box.
+ORDER = ('not_readable', 'bad_setting', 'bad_record', 'long_elapse', 'not_listed')
+
+
+def steps(text):
+    return tuple(text.split(', ')) if text else ()
+
+
+@dataclasses.dataclass(frozen=True)
+class Rules:
+    """The tables as they are looked up; a test of a test alters one entry."""
+    rows: dict = dataclasses.field(default_factory=lambda: {
+        (module, state, event): (steps(text), after)
+        for module, states, event, text, after in ROWS for state in states.split()})
+    li: dict = dataclasses.field(default_factory=lambda: {
+        (state, call): (steps(text), after) for states, call, text, after in LI_ROWS for state in states.split()})
+    abort: tuple = steps(ABORT)
+    reasons: dict = dataclasses.field(default_factory=lambda: dict(REASONS))
+    watch: tuple = tuple(WATCH)
+    limits: dict = dataclasses.field(default_factory=lambda: dict(LIMITS))
+    order: tuple = ORDER
+    asked: tuple = ASKED
+    expired: callable = operator.le         # "n or fewer left"; at least 1 is left, so an elapse of 0 ends none
+
+
+RULES = Rules()
+
+
+# PDUs
+
+@functools.lru_cache(maxsize=None)
+def read(family, octets):
+    """The value, or None: a reading's refusal number is never shown."""
+    try:
+        return percoder.read(family, octets)
+    except percoder.Refused:
+        return None
+
+
+@functools.lru_cache(maxsize=None)
+def downlink(octets):
+    """The event an aircraft PDU is, or None if it does not read."""
+    value = read('air', octets)
+    if value is None:
+        return None
+    name, content = value
+    if name in REPORTS:
+        return name + '+ack' if 'ack' in content else name
+    if name == 'negative-ack':
+        return f'{name}/{REQUEST_TYPES[content["request"]]}'
+    if name == 'positive-ack':
+        return f'{name}/{REQUEST_TYPES[content]}'
+    if name == 'noncompliance':
+        return f'{name}/{content[0]}'
+    return name
+
+
+@functools.lru_cache(maxsize=None)
+def request(octets):
+    """The event a ground PDU is, or None if it does not read."""
+    value = read('ground', octets)
+    if value is None:
+        return None
+    name, content = value
+    return 'req/' + name + ('/' + ('event', 'periodic')[content] if name == 'cancel-contract' else '')
+
+
+CANCEL_EMERGENCY_ACK = percoder.write('ground', ('cancel-emergency-ack', None)).hex()
+
+
+def provider_abort(reason):
+    return percoder.write('ground', ('provider-abort', reason)).hex()
+
+
+# The link
+
+STEP = re.compile('(start|stop) (...)(?: (if it runs|without an emergency|if PC is ACTIVE))?')
+
+
+class Link:
+    """LI, the modules, and the seconds left of the timers that run."""
+
+    def __init__(self, rules, settings):
+        self.rules = rules
+        self.settings = {timer: setting for (timer, _, _), setting in zip(rules.watch, settings)}
+        self.li = 'IDLE'
+        self.state = dict.fromkeys(MODULES, 'IDLE')
+        self.left = {}
+
+    def emergency(self):
+        # "An emergency holds exactly while EM isn't IDLE."
+        return self.state['EM'] != 'IDLE'
+
+    def all_idle(self):
+        return set(self.state.values()) == {'IDLE'}
+
+    def row(self, event):
+        """The module that lists an event at its state, and its row."""
+        for module, state in self.state.items():
+            row = self.rules.rows.get((module, state, event))
+            if row is not None:
+                return module, row
+        return None
+
+    # Entries of an action list
+
+    def start(self, timer):
+        self.left[timer] = self.settings[timer]     # "A start loads the timer's setting."
+        return [f'start {timer}']
+
+    def stop(self, timer):
+        self.left.pop(timer, None)
+        return [f'stop {timer}']
+
+    def stops(self):
+        return [entry for timer, _, _ in self.rules.watch if timer in self.left for entry in self.stop(timer)]
+
+    def holds(self, condition, timer):
+        return (condition is None or condition == 'if it runs' and timer in self.left
+                or condition == 'without an emergency' and not self.emergency()
+                or condition == 'if PC is ACTIVE' and self.state['PC'] == 'ACTIVE')
+
+    def step(self, step, octets, send):
+        """One step of a row of a module."""
+        if step == 'send':
+            return [f'{send} {octets.hex()}']
+        if step == 'send ack':
+            return [f'{send} {CANCEL_EMERGENCY_ACK}']
+        if step == 'ind':
+            return [f'ind {octets.hex()}']
+        verb, timer, condition = STEP.fullmatch(step).groups()
+        if not self.holds(condition, timer):
+            return []
+        return self.start(timer) if verb == 'start' else self.stop(timer)
+
+    def play(self, event, octets, send):
+        module, (todo, after) = self.row(event)
+        entries = [entry for step in todo for entry in self.step(step, octets, send)]
+        self.state[module] = after
+        return entries
+
+    def receive(self, octets):
+        # "A value is taken only when the reading is good; otherwise a start confirm in START or data in ACTIVE ends in
+        # abort 2."
+        event = downlink(octets)
+        if event is None:
+            return self.abort('invalid PDU')
+        if self.row(event) is None:
+            return self.abort('sequence error')
+        return self.play(event, octets, 'data-req')
+
+    def end(self):
+        """One end request; LI is IDLE after an abort."""
+        if self.li == 'IDLE' or not self.all_idle():
+            return []
+        self.li = 'END'
+        return ['end-req']
+
+    def reason_of(self, octets):
+        value = read('air', octets)
+        return value[1] if value and value[0] == 'provider-abort' else self.rules.reasons['undefined']
+
+    def link_step(self, step, octets):
+        """One step of a row of LI, or of the abort rule."""
+        if step.startswith('request as '):
+            return self.play(request(octets), octets, step[11:])
+        if step == 'pass':
+            return self.receive(octets)
+        if step == 'end-req if all IDLE':
+            return self.end()
+        if step == 'stops':
+            return self.stops()
+        if step == 'modules IDLE':
+            self.state = dict.fromkeys(MODULES, 'IDLE')
+            return []
+        if step == 'ind abort of the PDU':
+            return [f'ind abort {self.reason_of(octets)}']
+        if step.startswith('ind abort '):
+            return [f'ind abort {self.rules.reasons[step[10:]]}']
+        if step.startswith('abort-req '):
+            return [f'abort-req {provider_abort(self.rules.reasons[step[10:]])}']
+        return [step.replace('PDU', octets.hex())]      # an entry as it stands
+
+    def abort(self, why):
+        self.li = 'IDLE'
+        return [entry for step in self.rules.abort for entry in self.link_step(step.format(why), b'')]
+
+    # Calls
+
+    def call(self, kind, octets):
+        todo, self.li = self.rules.li[self.li, kind]
+        return [entry for step in todo for entry in self.link_step(step, octets)]
+
+    def elapse(self, seconds):
+        # "if a running timer has n or fewer left (n at least 1), abort 4; else each running one loses n."
+        if any(self.rules.expired(left, seconds) for left in self.left.values()):
+            return self.abort('timer expiry')
+        self.left = {timer: left - seconds for timer, left in self.left.items()}
+        return []
+
+    def watched(self):
+        """The timers that run by the watch table."""
+        now = {f'{module}-{state}' for module, state in self.state.items()}
+        return {timer for timer, states, also in self.rules.watch
+                if not now.isdisjoint(states) and (also is None or also in now)}
+
+    def good(self):
+        """The record by refusal 29; calls never lead to a bad one."""
+        return (set(self.left) == self.watched()
+                and all(1 <= left <= self.settings[timer] for timer, left in self.left.items())
+                and (self.li not in ('IDLE', 'END') or self.all_idle()))
+
+
+# The script
+
+# "N has no sign or leading zero and fits 32 bits", so it has at most ten digits.
+NUMBER = '(?:0|[1-9][0-9]{0,9})'
+HEX = '(?:[0-9a-f]{2})+'
+WORDS = {
+    'set': f'(?: {NUMBER}){{9}}',
+    'req': f'(?: {HEX})?',
+    'user-abort': '',
+    'elapse': f' {NUMBER}',
+    'start-cnf': f'(?: {HEX})?',
+    'start-rej': '',
+    'data': f'(?: {HEX})?',
+    'end-cnf': '',
+    'peer-abort': '',
+    'air-abort': f'(?: {HEX})?',
+    'down': '',
+}
+LINE = re.compile('|'.join(word + rest for word, rest in WORDS.items()))
+IS_NUMBER = re.compile(NUMBER)
+IS_HEX = re.compile(HEX)
+
+
+class Call:
+    """A line taken apart, as far as it can be."""
+
+    def __init__(self, line):
+        text = line.decode('latin-1')
+        self.size = len(line)
+        self.formed = LINE.fullmatch(text) is not None
+        self.word, *arguments = text.split(' ')
+        counts = self.word in ('set', 'elapse')     # elsewhere digits are octets
+        self.numbers = [int(word) for word in arguments if counts and IS_NUMBER.fullmatch(word)]
+        self.octets = bytes.fromhex(arguments[0]) if arguments and IS_HEX.fullmatch(arguments[0]) else b''
+        self.event = request(self.octets) if self.word == 'req' else None
+        self.kind = REQUESTS.get(self.event, 'no request') if self.word == 'req' else self.word
+
+
+class Box:
+    """The link, once there is one, and the answers to lines. Each refusal judges alone: their order is a table."""
+
+    def __init__(self, rules=RULES, link=Link):
+        self.rules, self.make, self.link = rules, link, None
+
+    def not_readable(self, call):
+        # "`req` takes a written ground PDU: one that doesn't read is 17, one that is no request is 1. Lines before a
+        # good `set`, a `set` after it and lines over 4,096 octets are 17."
+        limits = self.rules.limits
+        readable = call.formed and call.size <= limits['line'] and all(n <= limits['number'] for n in call.numbers)
+        placed = (call.word == 'set') == (self.link is None)
+        return 0 if readable and placed and not (call.word == 'req' and call.event is None) else 17
+
+    def bad_setting(self, call):
+        limits = self.rules.limits
+        good = all(limits['least setting'] <= number <= limits['setting'] for number in call.numbers)
+        return 3 if call.word == 'set' and not good else 0
+
+    def bad_record(self, call):
+        return 29 if self.link and not self.link.good() else 0
+
+    def long_elapse(self, call):
+        return 4 if call.word == 'elapse' and any(n > self.rules.limits['elapse'] for n in call.numbers) else 0
+
+    def not_listed(self, call):
+        if self.link is None or call.word not in WORDS or call.word in ('set', 'elapse'):
+            return 0
+        if (self.link.li, call.kind) not in self.rules.li:
+            return 1 if call.word in self.rules.asked else 2
+        return 1 if call.kind in ('contract', 'change') and self.link.row(call.event) is None else 0
+
+    def act(self, call):
+        if call.word == 'set':
+            self.link = self.make(self.rules, call.numbers)
+            return []
+        if call.word == 'elapse':
+            return self.link.elapse(call.numbers[0])
+        return self.link.call(call.kind, call.octets)
+
+    def answer(self, line):
+        call = Call(line)
+        for judge in self.rules.order:
+            number = getattr(self, judge)(call)
+            if number:
+                return f'refused {number}'
+        return ' '.join(['ok'] + self.act(call))
+
+
+def lines(script):
+    """Octets up to LF; a last line without LF counts, nothing behind the last LF is no line."""
+    parts = script.split(b'\n')
+    return parts if parts[-1] else parts[:-1]
+
+
+def trace(script, rules=RULES, link=Link):
+    box, parts = Box(rules, link), lines(script)
+    answers = [f'{place} {box.answer(line)}' for place, line in enumerate(parts, 1)]
+    return '\n'.join(['adsc trace 1', *answers, f'end {len(parts)}', '']).encode()
+
+
+if __name__ == '__main__':
+    sys.stdout.buffer.write(trace(sys.stdin.buffer.read()))

@@ -1,0 +1,360 @@
+"""Random scripts for a link, steered into deep states by the model played along, and what they cover.
+
+    maker = Maker(rng, Coverage())
+    maker.script(60) -> script octets
+"""
+
+import collections
+import functools
+
+from compare_coder import DAMAGES, random_value
+from linkmodel import DOWNLINK, LIMITS, REQUESTS, RULES, Box, Call, downlink, request
+from percoder import write
+
+LI_STATES = ('IDLE', 'START', 'ACTIVE', 'END')
+EVENTS = [*REQUESTS, *DOWNLINK, 'unreadable']
+ENDING = {'START': EVENTS[len(REQUESTS):], 'ACTIVE': ['req/cancel-all', *EVENTS[len(REQUESTS):]]}
+MOST = LIMITS['elapse']
+
+CONTRACT_STATES = ('IDLE', 'START-PENDING', 'ACTIVE', 'PENDING', 'CANCEL')
+STATES = {'DC': ('IDLE', 'PENDING', 'ACTIVE'), 'EC': CONTRACT_STATES, 'PC': CONTRACT_STATES,
+          'EM': ('IDLE', 'ACTIVE', 'MODIFY')}
+
+# What stands beside a module's state: PC2 hangs on both PC and EM.
+BESIDE = {'DC': ('',), 'EC': ('',), 'PC': ('EM IDLE', 'EM not IDLE'), 'EM': ('PC ACTIVE', 'PC not ACTIVE')}
+PLACES = [(module, state, beside) for module in STATES for state in STATES[module] for beside in BESIDE[module]]
+
+# Kinds of lines, as LI meets them.
+KINDS = ['set in range', 'set out of range', 'req contract', 'req change', 'req cancel-all', 'req no request',
+         'req unreadable', 'user-abort', 'elapse 0', 'elapse runs on', 'elapse expires', 'elapse over',
+         'start-cnf reads', 'start-cnf unreadable', 'start-rej', 'data reads', 'data unreadable', 'end-cnf',
+         'peer-abort', 'air-abort provider abort', 'air-abort other', 'air-abort unreadable', 'down', 'no call']
+BEFORE = 'no link'
+
+# Where modules stand in LI START.
+FIRST = [(module, 'IDLE') for module in STATES] + [('DC', 'PENDING'), ('EC', 'START-PENDING'), ('PC', 'START-PENDING')]
+
+# Pairs that no calls lead to, and why.
+UNREACHABLE = [
+    ('LI IDLE: downlink is refusal 2, no module is asked',
+     lambda li, place, event: li == 'IDLE' and event not in REQUESTS),
+    ('LI START: a request is refusal 1, no module is asked',
+     lambda li, place, event: li == 'START' and event in REQUESTS),
+    ('LI END: a request is refusal 1, data is late, no module is asked',
+     lambda li, place, event: li == 'END'),
+    ('LI IDLE has all modules IDLE (29)',
+     lambda li, place, event: li == 'IDLE' and (place[1] != 'IDLE' or place[2] in ('EM not IDLE', 'PC ACTIVE'))),
+    ('LI START has one module, in its first pending state: the answer ends START, a second request is refused',
+     lambda li, place, event: li == 'START' and (place[:2] not in FIRST or place[2] in ('EM not IDLE', 'PC ACTIVE'))),
+]
+UNREACHABLE_LINES = [
+    ('no timer runs in LI IDLE and END', lambda li, kind: li in (BEFORE, 'IDLE', 'END') and kind == 'elapse expires'),
+]
+
+
+def places(link):
+    """Where the four modules stand."""
+    beside = {'DC': '', 'EC': '', 'PC': 'EM not IDLE' if link.emergency() else 'EM IDLE',
+              'EM': 'PC ACTIVE' if link.state['PC'] == 'ACTIVE' else 'PC not ACTIVE'}
+    return [(module, state, beside[module]) for module, state in link.state.items()]
+
+
+def joint(link):
+    return tuple(link.state.values())
+
+
+def event_of(link, call):
+    """The event the tables are asked about, or None."""
+    if call.word == 'req' and link.li in ('IDLE', 'ACTIVE'):
+        return call.event
+    if (link.li, call.word) in (('START', 'start-cnf'), ('ACTIVE', 'data')):
+        return downlink(call.octets) or 'unreadable'
+    return None
+
+
+def elapse_kind(link, seconds):
+    if seconds == 0 or seconds > MOST:
+        return 'elapse over' if seconds else 'elapse 0'
+    return 'elapse expires' if link and any(left <= seconds for left in link.left.values()) else 'elapse runs on'
+
+
+def kind_of(link, call):
+    """The kind of a line, one of KINDS."""
+    if not call.formed or call.size > LIMITS['line'] or any(number > LIMITS['number'] for number in call.numbers):
+        return 'no call'
+    if call.word == 'set':
+        return 'set in range' if all(1 <= number <= LIMITS['setting'] for number in call.numbers) else 'set out of range'
+    if call.word == 'req':
+        return f'req {call.kind}' if call.event else 'req unreadable'
+    if call.word == 'elapse':
+        return elapse_kind(link, call.numbers[0])
+    if call.word in ('start-cnf', 'data'):
+        return f'{call.word} {"reads" if downlink(call.octets) else "unreadable"}'
+    if call.word == 'air-abort':
+        event = downlink(call.octets) or 'unreadable'
+        return 'air-abort ' + {'provider-abort': 'provider abort', 'unreadable': 'unreadable'}.get(event, 'other')
+    return call.word
+
+
+class Coverage:
+    def __init__(self):
+        self.pairs = collections.Counter()      # (LI state, place, event)
+        self.lines = collections.Counter()      # (LI state, kind of line)
+        self.joints = collections.Counter()     # the four states together, or END
+        self.joint_pairs = collections.Counter()
+
+    def note(self, link, line):
+        call = Call(line)
+        kind = kind_of(link, call)
+        self.lines[link.li if link else BEFORE, kind] += 1
+        self.joints['END'] += link is not None and link.li == 'END'
+        event = event_of(link, call) if link and kind != 'no call' else None
+        if event is None:
+            return
+        for place in places(link):
+            self.pairs[link.li, place, event] += 1
+        self.joints[joint(link)] += 1
+        self.joint_pairs[joint(link), event] += 1
+
+    def rarity(self, link, event):
+        """How often an event met the least of its pairs at the present states."""
+        return min(self.pairs[link.li, place, event] for place in places(link)), self.joint_pairs[joint(link), event]
+
+
+def pairs_due():
+    """The pairs that must be met, and how many cannot be, by reason."""
+    due, out = [], collections.Counter()
+    for li in LI_STATES:
+        for place in PLACES:
+            for event in EVENTS:
+                why = next((why for why, holds in UNREACHABLE if holds(li, place, event)), None)
+                if why:
+                    out[why] += 1
+                else:
+                    due.append((li, place, event))
+    return due, out
+
+
+def lines_due():
+    return [(li, kind) for li in (BEFORE, *LI_STATES) for kind in KINDS
+            if not any(holds(li, kind) for _, holds in UNREACHABLE_LINES)]
+
+
+class Pool:
+    """PDUs of every event, and octets that are none."""
+    EACH = 12
+
+    def __init__(self, rng):
+        self.of = collections.defaultdict(list)
+        for family, name_of, events in (('air', downlink, DOWNLINK), ('ground', request, REQUESTS)):
+            while any(len(self.of[event]) < self.EACH for event in events):
+                octets = write(family, random_value(rng, family))
+                if len(self.of[name_of(octets)]) < self.EACH:
+                    self.of[name_of(octets)].append(octets)
+        self.bad = {family: self.unreadable(rng, family, name_of)
+                    for family, name_of in (('air', downlink), ('ground', request))}
+
+    def unreadable(self, rng, family, name_of):
+        found = [b'', bytes(129), b'\x80', b'\x99' * 5, write('air', ('cancel-emergency', None)) + b'\0']
+        while len(found) < 100:
+            drawn, octets = rng.choice(DAMAGES)(rng, family)
+            if drawn == family and name_of(octets) is None:
+                found.append(octets)
+        return found
+
+
+@functools.lru_cache(maxsize=None)
+def moves(states):
+    """The events listed at four states, each with the states it leads to; with all IDLE the link ends."""
+    found = []
+    for place, (module, state) in enumerate(zip(STATES, states)):
+        for (row_module, row_state, event), (_, after) in RULES.rows.items():
+            if (row_module, row_state) == (module, state):
+                then = states[:place] + (after,) + states[place + 1:]
+                found.append((event, then if set(then) != {'IDLE'} else 'END'))
+    return found
+
+
+def lists(link, kind):
+    """Whether LI lists a kind of line at its state."""
+    word, _, detail = kind.partition(' ')
+    return (link.li, detail if word == 'req' else word) in RULES.li
+
+
+class Maker:
+    """Makes scripts one after another; what is rarely met is tried more."""
+
+    def __init__(self, rng, coverage):
+        self.rng, self.coverage, self.pool = rng, coverage, Pool(rng)
+
+    def script(self, size):
+        rng, made = self.rng, []
+        self.box = Box()
+        self.rough = rng.choice((0.05, 0.1, 0.25))  # how often a line may end the link
+        if rng.random() < 0.02:
+            size = rng.randint(0, 3)
+        for _ in range(size):
+            line = self.line()
+            self.coverage.note(self.box.link, line)
+            self.box.answer(line)
+            made.append(line)
+        return b'\n'.join(made) + (b'\n' if made and rng.random() < 0.9 else b'')
+
+    def line(self):
+        link, draw = self.box.link, self.rng.random()
+        if link is None:
+            return self.opening(draw)
+        if self.rng.random() < self.rough:
+            return self.breaking(link, draw)
+        if draw < 0.62:
+            return self.forward(link)
+        if draw < 0.74:
+            return self.asking(link)
+        if draw < 0.88:
+            return self.clock(link)
+        return self.of_kind(self.rarest_kind(link.li, [kind for kind in KINDS if not lists(link, kind)]))
+
+    # Before there is a link
+
+    def opening(self, draw):
+        if draw < 0.65:
+            return self.of_kind('set in range')
+        if draw < 0.8:
+            return self.of_kind('set out of range')
+        return self.of_kind(self.rarest_kind(BEFORE, KINDS))
+
+    def settings(self):
+        high = self.rng.choice((3, 6, 12, 12, 60, 60, MOST))
+        low = self.rng.choice((1, 2, high // 2 + 1))
+        return [self.rng.choice((self.rng.randint(low, high), self.rng.randint(low, high), high)) for _ in range(9)]
+
+    # With a link
+
+    def forward(self, link):
+        """A listed event, rather one that leads where few calls have been."""
+        if link.li == 'END':
+            return self.of_kind(self.rng.choice(('end-cnf', 'end-cnf', 'data reads', 'data unreadable')))
+        listed = [(event, after) for event, after in moves(joint(link))
+                  if link.li == 'ACTIVE' or (event in REQUESTS) == (link.li == 'IDLE')]
+        if self.rng.random() < 0.3:
+            return self.of_event(link, self.rarest([event for event, _ in listed], link))
+        event, _ = min(listed, key=lambda pair: (1 + self.coverage.joints[pair[1]]) * self.rng.random())
+        return self.of_event(link, event)
+
+    def asking(self, link):
+        """The request that was asked least here; a cancel-all would end the link."""
+        if link.li not in ('IDLE', 'ACTIVE'):
+            return self.of_kind(self.rng.choice([kind for kind in KINDS if kind.startswith('req ')]))
+        return self.of_event(link, self.rarest([event for event in REQUESTS if event != 'req/cancel-all'], link))
+
+    def breaking(self, link, draw):
+        """What ends the link, if there is one: data not listed or unreadable, an expiry, cancel-all, aborts."""
+        if draw < 0.65 and link.li in ('START', 'ACTIVE'):
+            event = self.rarest(ENDING[link.li], link)
+            fresh = not self.coverage.rarity(link, event)[0]
+            return self.of_event(link, event) if fresh or self.rng.random() < 0.5 else self.forward(link)
+        if draw < 0.8 and link.left:
+            return b'elapse %d' % self.near(link)
+        return self.of_kind(self.rarest_kind(link.li, [kind for kind in KINDS if lists(link, kind)]))
+
+    def clock(self, link):
+        """Time that no timer ends by."""
+        most = min(link.left.values()) - 1 if link.left else MOST
+        return b'elapse %d' % self.rng.choice((most, self.rng.randint(0, most), self.rng.randint(0, most), min(1, most), 0))
+
+    def near(self, link):
+        timer, left = self.rng.choice((min(link.left.items(), key=lambda entry: entry[1]),
+                                       self.rng.choice(list(link.left.items()))))
+        return self.rng.choice((left, left, left - 1, left + 1, link.settings[timer], link.settings[timer] - 1, MOST))
+
+    def rarest(self, events, link):
+        return min(events, key=lambda event: (*self.coverage.rarity(link, event), self.rng.random()))
+
+    def rarest_kind(self, li, kinds):
+        """The kind of line met least in an LI state; an expiry needs a timer and is not drawn here."""
+        return min(kinds, key=lambda kind: (kind == 'elapse expires', self.coverage.lines[li, kind], self.rng.random()))
+
+    # Lines
+
+    def of_event(self, link, event):
+        if event in REQUESTS:
+            return self.hexed('req', self.rng.choice(self.pool.of[event]))
+        octets = self.rng.choice(self.pool.bad['air'] if event == 'unreadable' else self.pool.of[event])
+        return self.hexed('start-cnf' if link.li == 'START' else 'data', octets)
+
+    def hexed(self, word, octets):
+        return f'{word} {octets.hex()}'.rstrip().encode()
+
+    def of_kind(self, kind):
+        word, _, detail = kind.partition(' ')
+        if kind == 'no call':
+            return self.no_call()
+        if word == 'set':
+            return self.set_line(detail)
+        if word == 'elapse':
+            return b'elapse %d' % self.seconds(detail)
+        if not detail:
+            return word.encode()
+        return self.hexed(word, self.octets(word, detail))
+
+    def octets(self, word, detail):
+        rng, of, bad = self.rng, self.pool.of, self.pool.bad
+        if detail == 'unreadable':
+            if word in ('start-cnf', 'air-abort') and rng.random() < 0.05:
+                return rng.randbytes((LIMITS['line'] - len(word) - 1) // 2)     # the longest readable line
+            return rng.choice(bad['ground' if word == 'req' else 'air'])
+        if word == 'req':
+            return rng.choice(of[rng.choice([event for event, kind in REQUESTS.items() if kind == detail])])
+        if detail == 'provider abort':
+            return rng.choice(of['provider-abort'])
+        return rng.choice(of[rng.choice([event for event in DOWNLINK if detail == 'reads' or event != 'provider-abort'])])
+
+    def seconds(self, detail):
+        link = self.box.link
+        if detail == 'over':
+            return self.rng.choice((MOST + 1, MOST + 1, LIMITS['number'], self.rng.randint(MOST + 1, LIMITS['number'])))
+        if detail == '0':
+            return 0
+        return self.near(link) if link and link.left else self.rng.choice((1, MOST, self.rng.randint(1, MOST)))
+
+    def set_line(self, detail):
+        numbers = self.settings()
+        if detail == 'out of range':
+            for place in self.rng.sample(range(9), self.rng.choice((1, 1, 1, 9))):
+                numbers[place] = self.rng.choice((0, MOST + 1, MOST + 1, LIMITS['number']))
+        return ' '.join(['set', *map(str, numbers)]).encode()
+
+    def no_call(self):
+        """A line that is none: most are a good one with one thing wrong."""
+        return self.rng.choice((self.bad_set, self.bad_elapse, self.bad_line, self.bad_line, self.bad_octets,
+                                self.too_long))()
+
+    def bad_set(self):
+        numbers = self.set_line(self.rng.choice(('in range', 'out of range'))).split()[1:]
+        place = self.rng.randrange(9)
+        odd = self.rng.choice((b'00', b'-1', b'+1', b'01', b'4294967296', b'1.0', b'x', b''))
+        return b' '.join([b'set', *self.rng.choice((
+            numbers[:8], numbers + [b'1'], numbers + [b'0'], [], numbers[:place] + [odd] + numbers[place + 1:]))])
+
+    def bad_elapse(self):
+        beyond = b' %d' % (LIMITS['number'] + 1)
+        return b'elapse' + self.rng.choice((
+            b'', b' ', b' 00', b' 01', b' -0', b' -1', b' +1', b' 1 ', b' 1 1', b'  1', b' 0x1', b' 1a', beyond, beyond,
+            beyond, beyond, b' 18446744073709551616', b' ' + b'9' * 5000, b'1', b'\t1', b' 1\r', b' \xb2'))
+
+    def bad_line(self):
+        line = self.of_kind(self.rng.choice([kind for kind in KINDS if kind.split()[0] not in ('set', 'elapse', 'no')]))
+        word, _, digits = line.partition(b' ')
+        return self.rng.choice((
+            b'', b' ', line + b' ', line + b'\r', line + b'\r', line + b'\t', line + b'\0', line + b'\xff', b' ' + line,
+            line + b' 00', word.upper(), word.title() + line[len(word):], word[:-1], word + b'x', word + b'  ' + (digits or b'00'),
+            word + b'\t' + (digits or b'00'), b'air ' + digits, b'end', b'start-req ' + digits, digits + b'g',
+            line.replace(b' ', b''), word + b' 0x00'))
+
+    def bad_octets(self):
+        word = self.rng.choice((b'req', b'start-cnf', b'data', b'air-abort'))
+        return word + b' ' + self.rng.choice((b'', b'0', b'000', b'3B80', b'0g', b'00 00', b'0', b'\xd9\xa0', b'3b8', b'74 '))
+
+    def too_long(self):
+        word = self.rng.choice(('req', 'start-cnf', 'data', 'data', 'air-abort'))
+        return self.hexed(word, bytes((LIMITS['line'] - len(word) - 1) // 2 + self.rng.choice((1, 1, 1, 1000))))

@@ -1,0 +1,209 @@
+"""Checks of linkmodel.py against page 01: its example, and traces worked out by hand from its tables."""
+
+import sys
+
+from linkmodel import trace
+from percoder import write
+
+ZERO = {'sign': 0, 'degrees': 0, 'minutes': 0, 'tenths': 0}
+REPORT = {'position': {'latitude': ZERO, 'longitude': ZERO, 'level': 0},
+          'time': {'date': {'year': 1996, 'month': 1, 'day': 1}, 'clock': {'hours': 0, 'minutes': 0}},
+          'merit': {'accuracy': 0, 'first': 0, 'second': 0}}
+
+
+def report(name, **more):
+    return write('air', (name, {'report': REPORT, **more})).hex()
+
+
+# Short names in the scripts below: a report, and `+` for one with a positive ack.
+PDUS = {
+    'DEM': report('demand-report'), 'DEM+': report('demand-report', ack=None),
+    'EVT': report('event-report', **{'event-type': 0}), 'EVT+': report('event-report', ack=None, **{'event-type': 0}),
+    'PER': report('periodic-report'), 'PER+': report('periodic-report', ack=None),
+    'EMG': report('emergency'), 'EMG+': report('emergency', ack=None),
+}
+SET = 'set 10 20 30 40 50 60 70 80 90'
+
+# what: calls after SET, each with the answer due
+CASES = {
+    'an event contract': '''
+        req 4080        | ok start-req 4080 start EC1
+        start-cnf 3800  | ok stop EC1 ind 3800
+        data EVT        | ok ind EVT
+        req 4004        | ok data-req 4004 start EC1
+        data EVT        | ok ind EVT
+        data 2000       | ok stop EC1 ind 2000
+        req 10          | ok data-req 10 start EC2
+        data EVT        | ok ind EVT
+        req 10          | refused 1
+        data 3980       | ok stop EC2 ind 3980 end-req
+        data EVT        | ok late
+        data            | ok late
+        req 4080        | refused 1
+        end-cnf         | ok
+        end-cnf         | refused 2''',
+    'a periodic contract, PC2 last': '''
+        req 6000        | ok start-req 6000 start PC1
+        start-cnf 2a00  | ok stop PC1 ind 2a00 start PC2
+        data PER        | ok stop PC2 ind PER start PC2
+        req 640400      | ok stop PC2 data-req 640400 start PC1
+        data PER        | ok ind PER
+        data 20b0       | ok stop PC1 ind 20b0 start PC2
+        req 14          | ok stop PC2 data-req 14 start PC3
+        data 3a00       | ok stop PC3 ind 3a00 end-req''',
+    'no PC2 on an acknowledgement during an emergency': '''
+        req 6000        | ok start-req 6000 start PC1
+        start-cnf EMG   | ok ind EMG start EM1
+        data 3880       | ok stop PC1 ind 3880
+        data PER        | ok ind PER
+        req 6000        | ok data-req 6000 start PC1
+        data PER+       | ok stop PC1 ind PER+
+        data 00         | ok stop EM1 ind 00 data-req 20 start PC2
+        data EMG        | ok stop PC2 ind EMG start EM1
+        req 14          | ok data-req 14 start PC3''',
+    'EM1 is not restarted in MODIFY': '''
+        req 3000        | ok start-req 3000 start DC1
+        start-cnf EMG   | ok ind EMG start EM1
+        req 5840        | ok stop EM1 data-req 5840 start EM2
+        data EMG        | ok ind EMG
+        data 3a80       | ok stop EM2 ind 3a80 start EM1
+        req 5840        | ok stop EM1 data-req 5840 start EM2
+        data EMG+       | ok stop EM2 ind EMG+ start EM1
+        data EMG        | ok stop EM1 ind EMG start EM1
+        data 2130       | ok stop DC1 ind 2130
+        data 00         | ok stop EM1 ind 00 data-req 20 end-req''',
+    'the negative ack to a modify is not listed': '''
+        req 3000        | ok start-req 3000 start DC1
+        start-cnf EMG   | ok ind EMG start EM1
+        req 5840        | ok stop EM1 data-req 5840 start EM2
+        data 22b0       | ok stop DC1 stop EM2 abort-req 73 ind abort 3''',
+    'a demand contract with noncompliance': '''
+        req 3000        | ok start-req 3000 start DC1
+        start-cnf 2800  | ok stop DC1 ind 2800 start DC2
+        req 3000        | refused 1
+        data DEM        | ok stop DC2 ind DEM end-req''',
+    'a plain report in PENDING': '''
+        req 3000        | ok start-req 3000 start DC1
+        start-cnf DEM   | ok stop DC1 abort-req 73 ind abort 3
+        data DEM        | refused 2''',
+    'the start confirm': '''
+        req 3000        | ok start-req 3000 start DC1
+        req 6000        | refused 1
+        data 2130       | refused 2
+        end-cnf         | refused 2
+        start-rej       | ok stop DC1 ind abort 5
+        start-rej       | refused 2
+        req 3000        | ok start-req 3000 start DC1
+        start-cnf       | ok stop DC1 abort-req 72 ind abort 2
+        req 3000        | ok start-req 3000 start DC1
+        start-cnf 4200  | ok stop DC1 abort-req 73 ind abort 3''',
+    'stops in watch order, cancel-all': '''
+        req 6000        | ok start-req 6000 start PC1
+        start-cnf 3880  | ok stop PC1 ind 3880 start PC2
+        data EMG        | ok stop PC2 ind EMG start EM1
+        req 4080        | ok data-req 4080 start EC1
+        req 3000        | ok data-req 3000 start DC1
+        req 6000        | ok data-req 6000 start PC1
+        req 00          | ok stop DC1 stop EC1 stop PC1 stop EM1 end-req 00
+        elapse 86400    | ok
+        req 00          | refused 1
+        user-abort      | ok abort-req''',
+    'aborts': '''
+        user-abort      | refused 1
+        down            | refused 2
+        peer-abort      | refused 2
+        air-abort 4200  | refused 2
+        req 00          | refused 1
+        req 3000        | ok start-req 3000 start DC1
+        user-abort      | ok stop DC1 abort-req
+        req 3000        | ok start-req 3000 start DC1
+        down            | ok stop DC1 ind abort 0
+        req 3000        | ok start-req 3000 start DC1
+        peer-abort      | ok stop DC1 ind peer-abort
+        req 3000        | ok start-req 3000 start DC1
+        air-abort 4200  | ok stop DC1 ind abort 4
+        req 3000        | ok start-req 3000 start DC1
+        air-abort 00    | ok stop DC1 ind abort 6
+        req 3000        | ok start-req 3000 start DC1
+        air-abort       | ok stop DC1 ind abort 6''',
+    'the clock': '''
+        elapse 86400    | ok
+        req 3000        | ok start-req 3000 start DC1
+        elapse 9        | ok
+        elapse 0        | ok
+        elapse 86401    | refused 4
+        elapse 1        | ok stop DC1 abort-req 74 ind abort 4
+        req 4080        | ok start-req 4080 start EC1
+        start-cnf 3800  | ok stop EC1 ind 3800
+        elapse 86400    | ok
+        req 3000        | ok data-req 3000 start DC1
+        req 4080        | ok data-req 4080 start EC1
+        elapse 9        | ok
+        data 2130       | ok stop DC1 ind 2130
+        elapse 20       | ok
+        req 3000        | ok data-req 3000 start DC1
+        elapse 1        | ok stop DC1 stop EC1 abort-req 74 ind abort 4''',
+    'requests that are none, and 17 before 1': '''
+        req 20          | refused 1
+        req 74          | refused 1
+        req             | refused 17
+        req 640420      | refused 17
+        req 3000        | ok start-req 3000 start DC1
+        req 20          | refused 1
+        req 4000        | refused 17''',
+}
+
+# Whole scripts and traces: the example of 01, and lines (its script words).
+WHOLE = {
+    'the example': (
+        b'set 60 60 60 60 60 60 60 60 60\nreq 3000\nstart-cnf 2130\nend-cnf\nelapse 86401\n',
+        b'adsc trace 1\n1 ok\n2 ok start-req 3000 start DC1\n3 ok stop DC1 ind 2130 end-req\n4 ok\n5 refused 4\nend 5\n'),
+    'no line': (b'', b'adsc trace 1\nend 0\n'),
+    'an empty line': (b'\n', b'adsc trace 1\n1 refused 17\nend 1\n'),
+    'no last LF': (b'down\ndown', b'adsc trace 1\n1 refused 17\n2 refused 17\nend 2\n'),
+}
+LINES = [
+    ('set 1 1 1 1 1 1 1 1', 17), ('set 1 1 1 1 1 1 1 1 0', 3), ('set 1 1 1 1 1 1 1 1 86401', 3), ('elapse 0', 17),
+    ('set 1 1 1 1 1 1 1 4294967296 0', 17), ('set 0 1 1 1 1 1 1 1 4294967295', 3), ('set 1 1 1 1 1 1 1 1 01', 17),
+    ('set 1 1 1 1 1 1 1 1 1 ', 17), ('set 86400 1 1 1 1 1 1 1 1', None), ('set 1 1 1 1 1 1 1 1 1', 17), ('set 0 1', 17),
+    ('elapse 4294967295', 4), ('elapse 4294967296', 17), ('elapse 00', 17), ('elapse -0', 17), ('elapse', 17),
+    ('data', 2), ('data 9999999999', 2), ('data ', 17), ('data 0', 17),
+    ('data 3B80', 17), ('data  00', 17), (' data 00', 17), ('data\t00', 17),
+    ('down ', 17), ('down\r', 17), ('down 00', 17), ('Down', 17), ('down\0', 17), ('down\xff', 17), ('ind 00', 17),
+    ('air-abort ' + '00' * 2043, 2), ('air-abort ' + '00' * 2044, 17), ('data ' + '00' * 2045, 2), ('data ' + '00' * 2046, 17),
+]
+
+checks = failures = 0
+
+
+def check(what, got, wanted):
+    global checks, failures
+    checks += 1
+    if got != wanted:
+        failures += 1
+        print(f'{what}: got {got!r}, wanted {wanted!r}')
+
+
+def spelled(text):
+    return ' '.join(PDUS.get(word, word) for word in text.split())
+
+
+def answers(lines):
+    """The answers without their numbers."""
+    script = '\n'.join(lines).encode('latin-1') + b'\n'
+    return [line.split(' ', 1)[1] for line in trace(script).decode().split('\n')[1:-2]]
+
+
+for what, (script, wanted) in WHOLE.items():
+    check(what, trace(script), wanted)
+for what, text in CASES.items():
+    steps = [[spelled(part) for part in line.split('|')] for line in text.strip().split('\n')]
+    for (call, wanted), got in zip(steps, answers([SET] + [call for call, _ in steps])[1:]):
+        check(f'{what}, {call}', got, wanted)
+for (line, number), got in zip(LINES, answers([line for line, _ in LINES])):
+    check(ascii(line[:60]), got, f'refused {number}' if number else 'ok')
+
+if failures:
+    print(f'linkmodel: {failures} of {checks} checks failed')
+    sys.exit(1)
+print(f'linkmodel: {checks} checks passed')
