@@ -2,11 +2,12 @@
 use link::record::Link;
 use script::reply::Bench;
 use script::reply::answer_line;
+use text::least;
 use text::put_byte;
 use text::put_decimal;
 use text::put_text;
 ghost use mathlib.Core.Path.{_≡_};
-ghost use Prim.Native.Nat.{_≤_, min};
+ghost use Prim.Native.Nat.{_≤_};
 ghost use lib.ListN.{length, take};
 ghost use Rattle.text.specs.Page.{page, Writes};
 ghost use Rattle.desk.specs.Trace.{cold, bumped, mind, numbered, said, next, saidAll, nextAll, firstText, endText, lastText};
@@ -23,12 +24,6 @@ pub struct Desk {
 pub struct Filled {
     pub desk: Desk,
     pub used: usize,
-}
-
-fn least(a: usize, b: usize) -> usize
-    ensures { λ r. ⌜ (r ≤ b) × (r ≡ min a b) ⌝ }
-{
-    if a < b { a } else { b }
 }
 
 // Line numbers stop at the largest that 64 bits hold.

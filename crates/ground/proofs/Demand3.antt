@@ -15,7 +15,7 @@ use Rattle.moves.specs.Moves.{moveOf}
 use Rattle.moves.specs.Acts.{acts}
 use Rattle.moves.specs.declared.decide.Move.{Move}
 use Rattle.moves.specs.declared.acts.Acts.{Acts}
-use Rattle.moves.proofs.Laws.{both-left, both-right, below-at}
+use Rattle.moves.proofs.Laws.{both-left, both-right, below-at, no-true}
 use Rattle.link.specs.Record.{LI-IDLE, LI-END, good, timerGood, timerOk, statesOk, liOk, idle, quiet, withLi}
 use Rattle.link.specs.Clock.{due, notDue, later}
 use Rattle.link.specs.Step.{one, actsOf, moved}
@@ -32,7 +32,7 @@ use Rattle.ground.specs.declared.answer.Answer.{Answer}
 use Rattle.ground.specs.declared.call.Call.the-variants.{Elapse}
 use Rattle.ground.proofs.Laws.{fresh-good}
 use Rattle.ground.proofs.Every.{eq-T, T-eq, Kinds, every}
-use Rattle.ground.proofs.Stops.{closed-list, abort-list, no-true, member-left, member-right, member-one, stops-member}
+use Rattle.ground.proofs.Stops.{closed-list, abort-list, member-left, member-right, member-one, stops-member}
 
 -- LI's own rule, of a good link
 good-li : (l : Link) → T (good l) → T (liOk (l .li) (l .at))
@@ -126,10 +126,10 @@ acts-start m send t h e =
 -- an action list that does not name the timer
 acts-free : (x : ℕ) (l : List ℕ) → member x (acts l .list) ≡ false → member x l ≡ true → ⊥
 unfolding acts
-acts-free x l e h = no-true (sym e ∙ member-left x l (replicate (8 - length l) 0) h)
+acts-free x l e h = no-true (sym (member-left x l (replicate (8 - length l) 0) h) ∙ e)
 
 either-none : (a b : Bool) → either a b ≡ false → (a ≡ false) × (b ≡ false)
-either-none true b e = absurd (no-true (sym e))
+either-none true b e = absurd (no-true e)
 either-none false b e = (refl, e)
 
 not-so : (b : Bool) → (b ≡ true → ⊥) → b ≡ false

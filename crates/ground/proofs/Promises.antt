@@ -26,7 +26,7 @@ use Rattle.ground.specs.declared.call.Call.{Call}
 use Rattle.ground.specs.declared.call.Call.the-variants.{Elapse}
 use Rattle.ground.proofs.Laws.{short}
 use Rattle.ground.proofs.Every.{Kinds, every}
-use Rattle.ground.proofs.Stops.{no-true}
+use Rattle.moves.proofs.Laws.{no-true}
 use Rattle.ground.proofs.Demand3.{demand3-first, demand3-second}
 
 -- "a refused call leaves the link .. as before it", and gives no action and no octets
@@ -38,13 +38,13 @@ refused-still l c = every l (λ n a. eqb (a .said .refusal) 0 ≡ false → a �
     kinds =
         record {
           stays = λ n h e. refl;
-          aborts = λ n s g e. absurd (no-true (sym e));
-          closes = λ x g h e. absurd (no-true (sym e));
-          goes = λ k x entry s g any f e. absurd (no-true (sym e));
-          ends = λ x s g f i e. absurd (no-true (sym e));
-          waits = λ n g d e. absurd (no-true (sym e));
-          turns = λ g i e. absurd (no-true (sym e));
-          late = λ g e. absurd (no-true (sym e));
+          aborts = λ n s g e. absurd (no-true e);
+          closes = λ x g h e. absurd (no-true e);
+          goes = λ k x entry s g any f e. absurd (no-true e);
+          ends = λ x s g f i e. absurd (no-true e);
+          waits = λ n g d e. absurd (no-true e);
+          turns = λ g i e. absurd (no-true e);
+          late = λ g e. absurd (no-true e);
         }
 
 -- "each public call has one possible result"

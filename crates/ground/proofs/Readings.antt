@@ -1,8 +1,7 @@
 -- What is made of a reading follows the case of its answer. Assumes nothing.
-use mathlib.Core.Path.{_≡_, sym, ap, subst, _∙_}
+use mathlib.Core.Path.{_≡_, sym, ap, _∙_}
 use mathlib.Core.Bool.{Bool, true, false}
 use Prim.Native.Nat.{ℕ}
-use lib.Dec.{T}
 use Rattle.per.specs.Pdu.{Answer, got, refused}
 use Rattle.downlink.specs.declared.Air.{Air}
 use Rattle.downlink.specs.declared.Air.the-variants.{CancelEmergency}
@@ -10,6 +9,7 @@ use Rattle.downlink.specs.declared.AirPdu.{AirPdu}
 use Rattle.pdu.specs.declared.AirAnswer.{AirAnswer}
 use Rattle.pdu.specs.declared.AirAnswer.the-variants.{Good, Refused}
 use Rattle.pdu.specs.Answers.{airReading}
+use Rattle.moves.proofs.Laws.{no-true}
 
 kind-of : AirAnswer → Air
 kind-of (Good k) = k
@@ -18,9 +18,6 @@ kind-of (Refused n) = CancelEmergency
 is-good : AirAnswer → Bool
 is-good (Good k) = true
 is-good (Refused n) = false
-
-no-true : true ≡ false → ⊥
-no-true e = subst T e tt
 
 module _ {X : Type 0} (f : Answer AirPdu → X) where
   pub good-case : (x : Answer AirPdu) (k : Air) → airReading x .answer ≡ Good k → (g : Air → X) → ((a : AirPdu) → f (got a) ≡ g (a .kind)) → g k ≡ f x

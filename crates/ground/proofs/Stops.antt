@@ -12,7 +12,7 @@ use Rattle.moves.specs.Tests.{either, pick}
 use Rattle.moves.specs.Watch.{runs}
 use Rattle.moves.specs.Acts.{acts, pushed}
 use Rattle.moves.specs.declared.acts.Acts.{Acts}
-use Rattle.moves.proofs.Laws.{cases}
+use Rattle.moves.proofs.Laws.{cases, no-true}
 use Rattle.link.specs.Record.{good, timerGood, timerOk}
 use Rattle.link.specs.Clock.{stopped}
 use Rattle.link.specs.declared.record.Link.{Link}
@@ -105,11 +105,8 @@ either-mono : (a b d : Bool) → (b ≡ true → d ≡ true) → either a b ≡ 
 either-mono true b d f h = refl
 either-mono false b d f h = f h
 
-pub no-true : false ≡ true → ⊥
-no-true e = subst T (sym e) tt
-
 pub member-left : (x : ℕ) (l r : List ℕ) → member x l ≡ true → member x (l ++ r) ≡ true
-member-left x [] r e = absurd (no-true e)
+member-left x [] r e = absurd (no-true (sym e))
 member-left x (y ∷ ys) r e = either-mono (eqb x y) (member x ys) (member x (ys ++ r)) (member-left x ys r) e
 
 pub member-right : (x : ℕ) (l r : List ℕ) → member x r ≡ true → member x (l ++ r) ≡ true

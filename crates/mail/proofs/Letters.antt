@@ -1,11 +1,10 @@
 -- A ground PDU has room in eight octets, so writing it there gives its octets or the refusal of its fields. Assumes nothing.
 use Prim.Native.Nat.{ℕ, zero, suc, _-_, _≤_}
-use mathlib.Core.Path.{_≡_, refl, sym, ap, subst, _∙_}
+use mathlib.Core.Path.{_≡_, refl, sym, ap, _∙_}
 use mathlib.Core.Bool.{Bool, true, false}
 use mathlib.Core.List.{List, [], _++_}
 use native.Mathlib.Omega.{arith}
 use borrow.Author.Tests.{le-leb}
-use lib.Dec.{T}
 use lib.ListN.{length, replicate, drop}
 use Rattle.per.specs.Codec.{first}
 use Rattle.per.specs.Pdu.{encode}
@@ -17,6 +16,7 @@ use Rattle.uplink.specs.declared.Ground.{Ground}
 use Rattle.uplink.specs.Table.{groundC}
 use Rattle.uplink.proofs.Bounds.{ground-most}
 use Rattle.pdu.specs.Answers.{Sends}
+use Rattle.moves.proofs.Laws.{no-true}
 use Rattle.mail.specs.Sent.{sent, letterOf, letter}
 
 drop-blank : (n m : ℕ) → drop {A = ℕ} n (replicate m 0) ≡ replicate (m - n) 0
@@ -37,9 +37,6 @@ number (Refused n) = n
 good : Written → Bool
 good (Octets n) = true
 good (Refused n) = false
-
-no-true : true ≡ false → ⊥
-no-true e = subst T e tt
 
 -- in eight octets
 abbrev into : ℕ → List ℕ → Delivered

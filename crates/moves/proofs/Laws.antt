@@ -14,6 +14,9 @@ pub cases {ℓ κ μ} : {A : Type ℓ} {B : Type κ} {C : Type μ} → A ⊎ B �
 cases (inl a) f g = f a
 cases (inr b) f g = g b
 
+pub no-true : true ≡ false → ⊥
+no-true e = subst T e tt
+
 pub both-left : (a b : Bool) → T (both a b) → T a
 both-left true b t = tt
 both-left false b t = t

@@ -4,11 +4,12 @@ use ground::call::Call;
 use pdu::GroundAnswer;
 use pdu::decode_ground;
 use text::Hex;
+use text::least;
 use text::numbers::Number;
 use text::numbers::parse_number;
 use text::parse_hex;
 ghost use mathlib.Core.Path.{_≡_};
-ghost use Prim.Native.Nat.{_≤_, min};
+ghost use Prim.Native.Nat.{_≤_};
 ghost use lib.ListN.{length};
 ghost use Rattle.script.specs.Lines.{fieldOf, heldIn, heard, withOctets, requestTold, requestOf, elapseTold, aloneTold, askedBy};
 
@@ -16,12 +17,6 @@ ghost use Rattle.script.specs.Lines.{fieldOf, heldIn, heard, withOctets,
 pub enum Told {
     Unread,
     Asks(Call, usize),
-}
-
-pub(crate) fn least(a: usize, b: usize) -> usize
-    ensures { λ r. ⌜ (r ≤ b) × (r ≡ min a b) ⌝ }
-{
-    if a < b { a } else { b }
 }
 
 // Nothing, or a space and hexadecimal text: its octets come to the front of `octets`.

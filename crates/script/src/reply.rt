@@ -1,7 +1,6 @@
 // The answer to one line of a script.
 use crate::line::Told;
 use crate::line::call_of;
-use crate::line::least;
 use crate::said::put_refused;
 use crate::said::put_said;
 use crate::words::SET;
@@ -9,6 +8,7 @@ use crate::words::word_of;
 use ground::call::answer;
 use ground::fresh::open;
 use link::record::Link;
+use text::least;
 use text::numbers::parse_nine;
 use text::put_text;
 use text::word_end;

@@ -1,7 +1,7 @@
 // An answer as text: `ok` and its actions in order, or `refused N`.
-use crate::line::least;
 use ground::answer::*;
 use link::actions::*;
+use text::least;
 use text::put_byte;
 use text::put_decimal;
 use text::put_hex;

@@ -4,7 +4,7 @@ pub mod numbers;
 ghost use mathlib.Core.Path.{_≡_};
 ghost use mathlib.Core.Bool.{true, false};
 ghost use mathlib.Core.List.{[], _∷_};
-ghost use Prim.Native.Nat.{_+_, _*_, _/_, _%_, _≤_, _<_};
+ghost use Prim.Native.Nat.{_+_, _*_, _/_, _%_, _≤_, _<_, min};
 ghost use lib.ListN.{length, drop};
 ghost use lib.Seq.{sets};
 ghost use Rattle.text.specs.Text.{digitOf, hexGood, octetsOf, hexOf, hexInto, wordEnd, sameText, glyphOf, hexText, decimal};
@@ -18,6 +18,13 @@ pub enum Hex {
     Long,
     // No hexadecimal text.
     Garbled,
+}
+
+// The lesser of two, for the part of a buffer that is there.
+pub fn least(a: usize, b: usize) -> usize
+    ensures { λ r. ⌜ (r ≤ b) × (r ≡ min a b) ⌝ }
+{
+    if a < b { a } else { b }
 }
 
 // The value of a hexadecimal digit in lower case, or 16.
