@@ -37,14 +37,14 @@ fn bump(n: u64) -> u64
 }
 
 // The answer to a line, with its number and its end.
-fn close_line(d: Desk, line: &[u8], out: &mut [u8]) -> Desk
+fn close_line(d: Desk, line: &[u8], out: &mut [u8], lent: bool) -> Desk
     ensures { λ r. ⌜ (r .len ≡ 0) × (r .number ≡ bumped (d .number)) × (r .bench ≡ numbered (bumped (d .number)) (d .bench) (now (line .entry)) .bench) × Writes (page (now (out .entry)) (d .at)) (numbered (bumped (d .number)) (d .bench) (now (line .entry)) .text) (page (now (out .exit)) (r .at)) × (length (numbered (bumped (d .number)) (d .bench) (now (line .entry)) .text) ≤ 34100) ⌝ }
 {
     let number = bump(d.number);
     let bench = d.bench;
     let a = put_decimal(out, d.at, number);
     let b = put_byte(out, a, 32);
-    let r = answer_line(bench, line, out, b);
+    let r = answer_line(bench, line, out, b, lent);
     let at = put_byte(out, r.at, 10);
     let next = r.bench;
     Desk {
@@ -55,14 +55,14 @@ fn close_line(d: Desk, line: &[u8], out: &mut [u8]) -> Desk
     }
 }
 
-// One octet of the script. `line` holds the line so far, and `out` the trace.
-pub fn eat(d: Desk, b: u8, line: &mut [u8], out: &mut [u8]) -> Desk
+// One octet of the script. `line` holds the line so far, and `out` the trace; `lent` says how the clock is worked, and nothing said depends on it.
+pub fn eat(d: Desk, b: u8, line: &mut [u8], out: &mut [u8], lent: bool) -> Desk
     ensures { λ r. ⌜ (mind r (now (line .exit)) ≡ next (length (now (line .entry))) (mind d (now (line .entry))) b) × Writes (page (now (out .entry)) (d .at)) (said (mind d (now (line .entry))) b) (page (now (out .exit)) (r .at)) × (length (said (mind d (now (line .entry))) b) ≤ 34100) ⌝ }
 {
     let len = d.len;
     if b == 10 {
         let n = least(len, line.len());
-        return close_line(d, &line[..n], out);
+        return close_line(d, &line[..n], out, lent);
     }
     if len < line.len() {
         line[len] = b;
@@ -77,14 +77,14 @@ pub fn eat(d: Desk, b: u8, line: &mut [u8], out: &mut [u8]) -> Desk
 const FULL: usize = 65536;
 
 // As much of the script as the page takes: its text stands on the page from the start. At least one octet is taken where there is one.
-pub fn fill(d: Desk, script: &[u8], line: &mut [u8], out: &mut [u8]) -> Filled
+pub fn fill(d: Desk, script: &[u8], line: &mut [u8], out: &mut [u8], lent: bool) -> Filled
     ensures { λ r. ⌜ (r .used ≤ length (now (script .entry))) × (r .used ≡ 0 → length (now (script .entry)) ≡ 0) × (mind (r .desk) (now (line .exit)) ≡ nextAll (length (now (line .entry))) (mind d (now (line .entry))) (take (r .used) (now (script .entry)))) × Writes (page (now (out .entry)) 0) (saidAll (length (now (line .entry))) (mind d (now (line .entry))) (take (r .used) (now (script .entry)))) (page (now (out .exit)) (r .desk .at)) × (100000 ≤ length (now (out .entry)) → length (saidAll (length (now (line .entry))) (mind d (now (line .entry))) (take (r .used) (now (script .entry)))) ≤ 100000) ⌝ }
 {
     let mut e = d;
     e.at = 0;
     let mut i = 0;
     while i < script.len() && e.at < FULL {
-        let f = eat(e, script[i], line, out);
+        let f = eat(e, script[i], line, out, lent);
         e = f;
         i += 1;
     }
@@ -119,7 +119,7 @@ fn put_end(out: &mut [u8], at: usize, n: u64) -> usize
 }
 
 // The end of a trace, on an empty page: the last line, if it has no end, and the number of lines.
-pub fn finish(d: Desk, line: &[u8], out: &mut [u8]) -> usize
+pub fn finish(d: Desk, line: &[u8], out: &mut [u8], lent: bool) -> usize
     ensures { λ r. ⌜ Writes (page (now (out .entry)) 0) (lastText (mind d (now (line .entry)))) (page (now (out .exit)) r) × (length (lastText (mind d (now (line .entry)))) ≤ 35000) ⌝ }
 {
     let n = least(d.len, line.len());
@@ -128,6 +128,6 @@ pub fn finish(d: Desk, line: &[u8], out: &mut [u8]) -> usize
     }
     let mut e = d;
     e.at = 0;
-    let f = close_line(e, &line[..n], out);
+    let f = close_line(e, &line[..n], out, lent);
     put_end(out, f.at, f.number)
 }

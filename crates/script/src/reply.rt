@@ -5,8 +5,8 @@ use crate::said::put_refused;
 use crate::said::put_said;
 use crate::words::SET;
 use crate::words::word_of;
-use ground::call::answer;
 use ground::fresh::open;
+use lent::answer_by;
 use link::record::Link;
 use text::least;
 use text::numbers::parse_nine;
@@ -46,7 +46,7 @@ fn blank() -> [u8; 2048]
 }
 
 // A line for a box that has its settings.
-fn play(link: Link, w: u8, tail: &[u8], out: &mut [u8], at: usize) -> Replied
+fn play(link: Link, w: u8, tail: &[u8], out: &mut [u8], at: usize, lent: bool) -> Replied
     requires { ⌜ length (now tail) ≤ 4096 ⌝ }
     ensures { λ r. ⌜ Replies (playReply link (askedBy w (now (tail .entry)))) (page (now (out .entry)) at) (r .bench) (page (now (out .exit)) (r .at)) ⌝ }
 {
@@ -56,7 +56,7 @@ fn play(link: Link, w: u8, tail: &[u8], out: &mut [u8], at: usize) -> Replied
         return refuse_line(Bench { ready: true, link }, 17, out, at);
     };
     let m = least(n, 2048);
-    let a = answer(link, call, &octets[..m]);
+    let a = answer_by(link, call, &octets[..m], lent);
     let next = a.link;
     let said = a.said;
     let b = put_said(out, at, said, &octets[..m]);
@@ -92,8 +92,8 @@ fn set_line(b: Bench, tail: &[u8], out: &mut [u8], at: usize) -> Replied
     }
 }
 
-// One line, without its number and its end.
-pub fn answer_line(b: Bench, line: &[u8], out: &mut [u8], at: usize) -> Replied
+// One line, without its number and its end. `lent` says how the clock is worked; the answer does not depend on it.
+pub fn answer_line(b: Bench, line: &[u8], out: &mut [u8], at: usize, lent: bool) -> Replied
     ensures { λ r. ⌜ Replies (lineReply b (now (line .entry))) (page (now (out .entry)) at) (r .bench) (page (now (out .exit)) (r .at)) ⌝ }
 {
     if 4096 < line.len() {
@@ -103,7 +103,7 @@ pub fn answer_line(b: Bench, line: &[u8], out: &mut [u8], at: usize) -> Replied
     let w = word_of(&line[..e]);
     let link = b.link;
     if b.ready {
-        return play(link, w, &line[e..], out, at);
+        return play(link, w, &line[e..], out, at, lent);
     }
     if w == SET {
         return set_line(b, &line[e..], out, at);

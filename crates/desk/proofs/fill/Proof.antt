@@ -13,10 +13,10 @@ use Rattle.desk.proofs.fill.Statement.{statement}
 use Rattle.desk.proofs.fill.Tie as tie
 
 abbrev Inv-loop : tie.InvT-loop
-Inv-loop script line₀ out₀ e₀ i₀ line out e i = (i ≤ length script) × (length line ≡ length line₀) × (length out ≡ length out₀) × (mind e line ≡ nextAll (length line₀) (mind e₀ line₀) (take i script)) × Writes (page out₀ 0) (saidAll (length line₀) (mind e₀ line₀) (take i script)) (page out (e .at)) × (100000 ≤ length out₀ → length (saidAll (length line₀) (mind e₀ line₀) (take i script)) ≤ 100000) × (i ≡ 0 → e .at ≡ 0)
+Inv-loop script line₀ out₀ lent e₀ i₀ line out e i = (i ≤ length script) × (length line ≡ length line₀) × (length out ≡ length out₀) × (mind e line ≡ nextAll (length line₀) (mind e₀ line₀) (take i script)) × Writes (page out₀ 0) (saidAll (length line₀) (mind e₀ line₀) (take i script)) (page out (e .at)) × (100000 ≤ length out₀ → length (saidAll (length line₀) (mind e₀ line₀) (take i script)) ≤ 100000) × (i ≡ 0 → e .at ≡ 0)
 
 abbrev μ-loop : tie.MeasureT-loop
-μ-loop script line₀ out₀ e₀ i₀ line out e i = length script - i
+μ-loop script line₀ out₀ lent e₀ i₀ line out e i = length script - i
 
 loop-holds : tie.Need-loop-holds Inv-loop μ-loop
 loop-holds c = (omega arith, refl, refl, refl, record { is = refl }, λ h. omega arith, λ z. refl)

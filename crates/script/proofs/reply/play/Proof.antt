@@ -55,11 +55,11 @@ least-requires c κs = search needs
 array-share-prefix-octets : tie.Need-array-share-prefix-octets
 array-share-prefix-octets c = search needs
 
-slice-aggregate-answer : tie.Need-slice-aggregate-answer
-slice-aggregate-answer c = sym (length-take-le _ _ (omega (arith, c .before .least .ensures .0)))
+slice-aggregate-answer-by : tie.Need-slice-aggregate-answer-by
+slice-aggregate-answer-by c = sym (length-take-le _ _ (omega (arith, c .before .least .ensures .0)))
 
-answer-requires : tie.Need-answer-requires
-answer-requires c κs = search needs
+answer-by-requires : tie.Need-answer-by-requires
+answer-by-requires c κs = search needs
 
 array-share-prefix-octets-2 : tie.Need-array-share-prefix-octets-2
 array-share-prefix-octets-2 c = search needs
@@ -75,7 +75,7 @@ same-length-2 c = search needs
 
 returns-2 : tie.Need-returns-2
 unfolding playReply heard answerReply
-returns-2 c = rw (← c .before .before .before .before .before .before .before .before .before .before .before .before .before .before .call-of .ensures, c .before .before .before .before .before .before .before .before .before .before .before .told .given .1, ← take-least (c .before .before .before .before .before .before .before .before .before .before .before .told .given .0 .1 .0) 2048 (c .before .before .before .before .before .before .before .before .before .before .before .before .before .before .call-of .last .1 .1 .0) (c .before .before .before .before .before .before .before .before .before .before .before .before .before .before .call-of .kept .1 .1 .0 ∙ sym (c .before .before .before .before .before .before .before .before .before .before .before .before .before .before .before .before .blank .ensures)), ← c .before .before .before .before .before .before .before .before .before .least .ensures .1, ← c .before .before .before .before .before .before .before .answer .ensures) (record { bench-is = refl; text-is = c .before .before .put-said .ensures .0; short = le-trans (c .before .before .put-said .ensures .1 (omega (arith, c .before .before .before .before .before .before .before .before .before .least .ensures .0, length-take (c .before .before .before .before .before .before .before .before .before .least .result) (c .before .before .before .before .before .before .before .before .before .before .before .before .before .before .call-of .last .1 .1 .0), min-le-left (c .before .before .before .before .before .before .before .before .before .least .result) (length (c .before .before .before .before .before .before .before .before .before .before .before .before .before .before .call-of .last .1 .1 .0))))) (lit≤ tt) })
+returns-2 c = rw (← c .before .before .before .before .before .before .before .before .before .before .before .before .before .before .call-of .ensures, c .before .before .before .before .before .before .before .before .before .before .before .told .given .1, ← take-least (c .before .before .before .before .before .before .before .before .before .before .before .told .given .0 .1 .0) 2048 (c .before .before .before .before .before .before .before .before .before .before .before .before .before .before .call-of .last .1 .1 .0) (c .before .before .before .before .before .before .before .before .before .before .before .before .before .before .call-of .kept .1 .1 .0 ∙ sym (c .before .before .before .before .before .before .before .before .before .before .before .before .before .before .before .before .blank .ensures)), ← c .before .before .before .before .before .before .before .before .before .least .ensures .1, ← c .before .before .before .before .before .before .before .answer-by .ensures) (record { bench-is = refl; text-is = c .before .before .put-said .ensures .0; short = le-trans (c .before .before .put-said .ensures .1 (omega (arith, c .before .before .before .before .before .before .before .before .before .least .ensures .0, length-take (c .before .before .before .before .before .before .before .before .before .least .result) (c .before .before .before .before .before .before .before .before .before .before .before .before .before .before .call-of .last .1 .1 .0), min-le-left (c .before .before .before .before .before .before .before .before .before .least .result) (length (c .before .before .before .before .before .before .before .before .before .before .before .before .before .before .call-of .last .1 .1 .0))))) (lit≤ tt) })
 
 pub play-spec : {M : Type 1} → statement M
 play-spec =
@@ -91,8 +91,8 @@ play-spec =
     returns
     least-requires
     array-share-prefix-octets
-    slice-aggregate-answer
-    answer-requires
+    slice-aggregate-answer-by
+    answer-by-requires
     array-share-prefix-octets-2
     slice-aggregate-put-said
     put-said-requires

@@ -1,8 +1,8 @@
 use mathlib.Core.Path.{sym}
 use native.Mathlib.Omega.{arith}
 use lib.Seq.{length-take-le}
-use Rattle.adsc.proofs.shown.Statement.{statement}
-use Rattle.adsc.proofs.shown.Tie as tie
+use Rattle.player.proofs.shown.Statement.{statement}
+use Rattle.player.proofs.shown.Tie as tie
 
 returns : tie.Need-returns
 returns c = (omega arith, sym (length-take-le _ _ (omega arith)))

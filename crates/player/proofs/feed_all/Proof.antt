@@ -5,18 +5,18 @@ use native.Mathlib.Omega.{arith}
 use lib.ListN.{length, take, drop, length-drop}
 use Rattle.text.proofs.Laws.{part-all}
 use borrow.Author.Needs.{needs}
-use Rattle.adsc.proofs.feed_all.Statement.{statement}
-use Rattle.adsc.proofs.feed_all.Tie as tie
+use Rattle.player.proofs.feed_all.Statement.{statement}
+use Rattle.player.proofs.feed_all.Tie as tie
 
 -- how long the rest of a script is
 part-length : (s : List ℕ) (i : ℕ) → length (take (length s - i) (drop i s)) ≡ length s - i
 part-length s i = ap (λ (l : List ℕ). length l) (part-all s i (length s) refl) ∙ length-drop i s
 
 abbrev Inv-loop : tie.InvT-loop
-Inv-loop script line₀ out₀ e₀ i₀ line out e i = (i ≤ length script) × (length line ≡ length line₀) × (length out ≡ length out₀)
+Inv-loop script line₀ out₀ lent e₀ i₀ line out e i = (i ≤ length script) × (length line ≡ length line₀) × (length out ≡ length out₀)
 
 abbrev μ-loop : tie.MeasureT-loop
-μ-loop script line₀ out₀ e₀ i₀ line out e i = length script - i
+μ-loop script line₀ out₀ lent e₀ i₀ line out e i = length script - i
 
 loop-holds : tie.Need-loop-holds Inv-loop μ-loop
 loop-holds c = (omega arith, refl, refl)

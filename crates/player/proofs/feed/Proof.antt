@@ -1,8 +1,8 @@
 use native.Mathlib.Nat.{le-trans}
 use Rattle.desk.proofs.Steps.{fits}
 use borrow.Author.Needs.{needs}
-use Rattle.adsc.proofs.feed.Statement.{statement}
-use Rattle.adsc.proofs.feed.Tie as tie
+use Rattle.player.proofs.feed.Statement.{statement}
+use Rattle.player.proofs.feed.Tie as tie
 
 fill-requires : tie.Need-fill-requires
 fill-requires c κs = search needs

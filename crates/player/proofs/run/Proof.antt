@@ -1,14 +1,14 @@
 use mathlib.Core.Path.{_≡_, refl, _∙_}
 use lib.ListN.{length}
 use borrow.Author.Needs.{needs}
-use Rattle.adsc.proofs.run.Statement.{statement}
-use Rattle.adsc.proofs.run.Tie as tie
+use Rattle.player.proofs.run.Statement.{statement}
+use Rattle.player.proofs.run.Tie as tie
 
 abbrev Inv-loop : tie.InvT-loop
-Inv-loop chunk₀ line₀ out₀ e₀ turns₀ chunk line out e turns = (length chunk ≡ length chunk₀) × (length line ≡ length line₀) × (length out ≡ length out₀)
+Inv-loop chunk₀ line₀ out₀ lent e₀ turns₀ chunk line out e turns = (length chunk ≡ length chunk₀) × (length line ≡ length line₀) × (length out ≡ length out₀)
 
 abbrev μ-loop : tie.MeasureT-loop
-μ-loop chunk₀ line₀ out₀ e₀ turns₀ chunk line out e turns = turns
+μ-loop chunk₀ line₀ out₀ lent e₀ turns₀ chunk line out e turns = turns
 
 loop-holds : tie.Need-loop-holds Inv-loop μ-loop
 loop-holds c = (refl, refl, refl)
