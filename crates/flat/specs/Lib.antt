@@ -1,0 +1,4 @@
+pub mod Numbers
+pub mod Grounds
+pub mod Airs
+pub mod laws

@@ -1,0 +1,121 @@
+-- A value's numbers are that value's again. A level is one that 32 bits hold, as every level in a declared value is.
+use Prim.Native.Nat.{ℕ, _^_, _<_}
+use mathlib.Core.Path.{_≡_, refl, ap}
+use mathlib.Core.Bool.{Bool, true, false}
+use mathlib.Core.List.{List}
+use lib.ListN.{getD}
+use lib.IntN.{ℤ, pos}
+use lib.Signed.{mag}
+use mir.Facts.{toZ-ofZ}
+use Rattle.fields.specs.declared.report.Fix.{Fix}
+use Rattle.uplink.specs.declared.interval.Interval.{Interval}
+use Rattle.uplink.specs.declared.interval.Interval.the-variants.{Seconds, Minutes}
+use Rattle.uplink.specs.declared.Ground.{Ground}
+use Rattle.uplink.specs.declared.Ground.the-variants as ground
+use Rattle.downlink.specs.declared.told.AckedReport.{AckedReport}
+use Rattle.downlink.specs.declared.told.AckedEmergency.{AckedEmergency}
+use Rattle.downlink.specs.declared.told.EventReport.{EventReport}
+use Rattle.downlink.specs.declared.Air.{Air}
+use Rattle.downlink.specs.declared.Air.the-variants as air
+use Rattle.flat.specs.Numbers.{truth, bitOf, twos, signedOf}
+use Rattle.flat.specs.Grounds.{intervalOf, scaleOf, timesOf, flatGround, groundAt}
+use Rattle.flat.specs.Airs.{flatFix, flatAcked, flatUrgent, flatEvent, flatAir, fixAt, reportAt, ackedAt, urgentAt, eventAt, kindAt}
+
+pub truth-bit : (b : Bool) → truth (bitOf b) ≡ b
+unfolding truth
+truth-bit true = refl
+truth-bit false = refl
+
+pub interval-back : (i : Interval) → intervalOf (scaleOf i) (timesOf i) ≡ i
+interval-back (Seconds n) = refl
+interval-back (Minutes n) = refl
+
+pub ground-back : (g : Ground) → groundAt (flatGround g) ≡ g
+unfolding groundAt flatGround
+ground-back ground.CancelAll = refl
+ground-back (ground.CancelContract n) = refl
+ground-back ground.CancelEmergencyAck = refl
+ground-back (ground.DemandContract v) = refl
+ground-back (ground.EventContract v) = refl
+ground-back (ground.ModifyEmergency i) = ap ground.ModifyEmergency (interval-back i)
+ground-back (ground.PeriodicContract a) = rw (interval-back (a .interval))
+ground-back (ground.Abort n) = refl
+
+level-back : (z : ℤ) → mag z < 2 ^ 31 → signedOf (twos z) ≡ record { number = z }
+unfolding signedOf twos
+level-back z f = ap (λ (y : ℤ). record { number = y }) (toZ-ofZ (record { sfits = f }))
+
+-- the level of a report
+abbrev pub levelFits : Fix → Type 0
+levelFits x = mag (x .position .level .number) < 2 ^ 31
+
+pub fix-back : (kind : ℕ) (ack : Bool) (event elements : ℕ) (x : Fix) (address : ℕ) → levelFits x → fixAt (flatFix kind ack event elements x address) ≡ x
+unfolding fixAt flatFix
+fix-back kind ack event elements x address f =
+    rw (truth-bit (x .position .latitude .minus), truth-bit (x .position .longitude .minus), level-back (x .position .level .number) f, truth-bit (x .time .«has_seconds»), truth-bit (x .merit .units), truth-bit (x .merit .avoidance))
+
+module _ (kind : ℕ) (ack : Bool) (event elements : ℕ) (x : Fix) (address : ℕ) where
+  abbrev list : List ℕ
+  list = flatFix kind ack event elements x address
+
+  kind-there : getD list 0 0 ≡ kind
+  unfolding flatFix
+  kind-there = refl
+
+  ack-there : truth (getD list 1 0) ≡ ack
+  unfolding flatFix
+  ack-there = truth-bit ack
+
+  event-there : getD list 2 0 ≡ event
+  unfolding flatFix
+  event-there = refl
+
+  elements-there : getD list 4 0 ≡ elements
+  unfolding flatFix
+  elements-there = refl
+
+  address-there : getD list 24 0 ≡ address
+  unfolding flatFix
+  address-there = refl
+
+acked-back : (kind : ℕ) (a : AckedReport) → levelFits (a .report .fix) → ackedAt (flatAcked kind a) ≡ a
+unfolding ackedAt reportAt
+acked-back kind a f =
+    let r = a .report in
+    rw (ack-there kind (a .ack) 0 (r .elements) (r .fix) (r .address), elements-there kind (a .ack) 0 (r .elements) (r .fix) (r .address), fix-back kind (a .ack) 0 (r .elements) (r .fix) (r .address) f, address-there kind (a .ack) 0 (r .elements) (r .fix) (r .address))
+
+urgent-back : (a : AckedEmergency) → levelFits (a .report .fix) → urgentAt (flatUrgent a) ≡ a
+unfolding urgentAt
+urgent-back a f =
+    let r = a .report in
+    rw (ack-there 2 (a .ack) 0 (r .elements) (r .fix) (r .address), elements-there 2 (a .ack) 0 (r .elements) (r .fix) (r .address), fix-back 2 (a .ack) 0 (r .elements) (r .fix) (r .address) f, address-there 2 (a .ack) 0 (r .elements) (r .fix) (r .address))
+
+event-back : (a : EventReport) → levelFits (a .report .fix) → eventAt (flatEvent a) ≡ a
+unfolding eventAt reportAt
+event-back a f =
+    let r = a .report in
+    rw (ack-there 3 (a .ack) (a .event) (r .elements) (r .fix) (r .address), event-there 3 (a .ack) (a .event) (r .elements) (r .fix) (r .address), elements-there 3 (a .ack) (a .event) (r .elements) (r .fix) (r .address), fix-back 3 (a .ack) (a .event) (r .elements) (r .fix) (r .address) f, address-there 3 (a .ack) (a .event) (r .elements) (r .fix) (r .address))
+
+-- the level in a PDU, 0 where it has none
+abbrev pub levelIn : Air → ℤ
+levelIn air.CancelEmergency = pos 0
+levelIn (air.Demand a) = a .report .fix .position .level .number
+levelIn (air.Emergency a) = a .report .fix .position .level .number
+levelIn (air.Event a) = a .report .fix .position .level .number
+levelIn (air.Negative a) = pos 0
+levelIn (air.Noncompliance n) = pos 0
+levelIn (air.Periodic a) = a .report .fix .position .level .number
+levelIn (air.Positive n) = pos 0
+levelIn (air.Abort n) = pos 0
+
+pub air-back : (k : Air) (count : ℕ) → mag (levelIn k) < 2 ^ 31 → kindAt (flatAir k count) ≡ k
+unfolding kindAt flatAir
+air-back air.CancelEmergency count f = refl
+air-back (air.Demand a) count f = rw (kind-there 1 (a .ack) 0 (a .report .elements) (a .report .fix) (a .report .address)) (ap air.Demand (acked-back 1 a f))
+air-back (air.Emergency a) count f = rw (kind-there 2 (a .ack) 0 (a .report .elements) (a .report .fix) (a .report .address)) (ap air.Emergency (urgent-back a f))
+air-back (air.Event a) count f = rw (kind-there 3 (a .ack) (a .event) (a .report .elements) (a .report .fix) (a .report .address)) (ap air.Event (event-back a f))
+air-back (air.Negative a) count f = refl
+air-back (air.Noncompliance n) count f = refl
+air-back (air.Periodic a) count f = rw (kind-there 6 (a .ack) 0 (a .report .elements) (a .report .fix) (a .report .address)) (ap air.Periodic (acked-back 6 a f))
+air-back (air.Positive n) count f = refl
+air-back (air.Abort n) count f = refl

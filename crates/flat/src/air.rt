@@ -1,0 +1,277 @@
+// Aircraft PDUs as 25 numbers, with the list's octets beside them.
+use crate::numbers::bit;
+use crate::numbers::complement;
+use crate::numbers::number;
+use crate::numbers::signed_at;
+use crate::numbers::truth_at;
+use downlink::Air;
+use downlink::AirPdu;
+use downlink::acks::NegativeAck;
+use downlink::told::AckedEmergency;
+use downlink::told::AckedReport;
+use downlink::told::EventReport;
+use fields::list::Listed;
+use fields::position::Angle;
+use fields::position::Position;
+use fields::report::EmergencyReport;
+use fields::report::Fix;
+use fields::report::Report;
+use fields::time::Merit;
+use fields::time::Time;
+ghost use mathlib.Core.Path.{_≡_};
+ghost use Rattle.flat.specs.Airs.{few, flatFix, flatAcked, flatUrgent, flatEvent, flatAir, fixAt, reportAt, ackedAt, urgentAt, eventAt, negativeAt, kindAt, airAt};
+
+// A kind without a report.
+fn few_of(kind: u32, a: u32, b: u32, count: u32) -> [u32; 25]
+    ensures { λ r. ⌜ r ≡ few kind a b count ⌝ }
+{
+    [
+        kind,
+        a,
+        b,
+        count,
+        0,
+        0,
+        0,
+        0,
+        0,
+        0,
+        0,
+        0,
+        0,
+        0,
+        0,
+        0,
+        0,
+        0,
+        0,
+        0,
+        0,
+        0,
+        0,
+        0,
+        0,
+    ]
+}
+
+fn flat_fix(kind: u32, ack: bool, event: u32, elements: u32, x: Fix, address: u32) -> [u32; 25]
+    ensures { λ r. ⌜ r ≡ flatFix kind ack event elements x address ⌝ }
+{
+    let p = x.position;
+    let la = p.latitude;
+    let lo = p.longitude;
+    let level = p.level;
+    let t = x.time;
+    let m = x.merit;
+    let south = bit(la.minus);
+    let west = bit(lo.minus);
+    let high = complement(level);
+    let exact = bit(t.has_seconds);
+    let units = bit(m.units);
+    let avoidance = bit(m.avoidance);
+    [
+        kind,
+        bit(ack),
+        event,
+        0,
+        elements,
+        south,
+        la.degrees,
+        la.minutes,
+        la.tenths,
+        west,
+        lo.degrees,
+        lo.minutes,
+        lo.tenths,
+        high,
+        t.year,
+        t.month,
+        t.day,
+        exact,
+        t.hours,
+        t.minutes,
+        t.seconds,
+        m.accuracy,
+        units,
+        avoidance,
+        address,
+    ]
+}
+
+fn flat_report(kind: u32, ack: bool, event: u32, it: Report) -> [u32; 25]
+    ensures { λ r. ⌜ r ≡ flatFix kind ack event (it .elements) (it .fix) (it .address) ⌝ }
+{
+    let x = it.fix;
+    flat_fix(kind, ack, event, it.elements, x, it.address)
+}
+
+fn flat_acked(kind: u32, a: AckedReport) -> [u32; 25]
+    ensures { λ r. ⌜ r ≡ flatAcked kind a ⌝ }
+{
+    let r = a.report;
+    flat_report(kind, a.ack, 0, r)
+}
+
+fn flat_urgent(a: AckedEmergency) -> [u32; 25]
+    ensures { λ r. ⌜ r ≡ flatUrgent a ⌝ }
+{
+    let it = a.report;
+    let x = it.fix;
+    flat_fix(2, a.ack, 0, it.elements, x, it.address)
+}
+
+fn flat_event(a: EventReport) -> [u32; 25]
+    ensures { λ r. ⌜ r ≡ flatEvent a ⌝ }
+{
+    let r = a.report;
+    flat_report(3, a.ack, a.event, r)
+}
+
+pub fn flat_air(kind: Air, count: u32) -> [u32; 25]
+    ensures { λ r. ⌜ r ≡ flatAir kind count ⌝ }
+{
+    match kind {
+        Air::CancelEmergency => few_of(0, 0, 0, 0),
+        Air::Demand(a) => flat_acked(1, a),
+        Air::Emergency(a) => flat_urgent(a),
+        Air::Event(a) => flat_event(a),
+        Air::Negative(a) => few_of(4, a.request, a.reason, count),
+        Air::Noncompliance(n) => few_of(5, n, 0, count),
+        Air::Periodic(a) => flat_acked(6, a),
+        Air::Positive(n) => few_of(7, n, 0, 0),
+        Air::Abort(n) => few_of(8, n, 0, 0),
+    }
+}
+
+fn position_at(f: &[u32]) -> Position
+    ensures { λ r. ⌜ r ≡ fixAt (now (f .entry)) .position ⌝ }
+{
+    let la = truth_at(f, 5);
+    let latitude = Angle {
+        minus: la,
+        degrees: number(f, 6),
+        minutes: number(f, 7),
+        tenths: number(f, 8),
+    };
+    let lo = truth_at(f, 9);
+    let longitude = Angle {
+        minus: lo,
+        degrees: number(f, 10),
+        minutes: number(f, 11),
+        tenths: number(f, 12),
+    };
+    let level = signed_at(f, 13);
+    Position {
+        latitude,
+        longitude,
+        level,
+    }
+}
+
+fn fix_at(f: &[u32]) -> Fix
+    ensures { λ r. ⌜ r ≡ fixAt (now (f .entry)) ⌝ }
+{
+    let position = position_at(f);
+    let time = Time {
+        year: number(f, 14),
+        month: number(f, 15),
+        day: number(f, 16),
+        has_seconds: truth_at(f, 17),
+        hours: number(f, 18),
+        minutes: number(f, 19),
+        seconds: number(f, 20),
+    };
+    let merit = Merit {
+        accuracy: number(f, 21),
+        units: truth_at(f, 22),
+        avoidance: truth_at(f, 23),
+    };
+    Fix {
+        position,
+        time,
+        merit,
+    }
+}
+
+fn report_at(f: &[u32]) -> Report
+    ensures { λ r. ⌜ r ≡ reportAt (now (f .entry)) ⌝ }
+{
+    let fix = fix_at(f);
+    Report {
+        elements: number(f, 4),
+        fix,
+        address: number(f, 24),
+    }
+}
+
+fn acked_at(f: &[u32]) -> AckedReport
+    ensures { λ r. ⌜ r ≡ ackedAt (now (f .entry)) ⌝ }
+{
+    let ack = truth_at(f, 1);
+    let report = report_at(f);
+    AckedReport { ack, report }
+}
+
+fn urgent_at(f: &[u32]) -> AckedEmergency
+    ensures { λ r. ⌜ r ≡ urgentAt (now (f .entry)) ⌝ }
+{
+    let ack = truth_at(f, 1);
+    let fix = fix_at(f);
+    let report = EmergencyReport {
+        elements: number(f, 4),
+        fix,
+        address: number(f, 24),
+    };
+    AckedEmergency { ack, report }
+}
+
+fn event_at(f: &[u32]) -> EventReport
+    ensures { λ r. ⌜ r ≡ eventAt (now (f .entry)) ⌝ }
+{
+    let ack = truth_at(f, 1);
+    let report = report_at(f);
+    EventReport {
+        ack,
+        event: number(f, 2),
+        report,
+    }
+}
+
+fn negative_at(f: &[u32]) -> NegativeAck
+    ensures { λ r. ⌜ r ≡ negativeAt (now (f .entry)) ⌝ }
+{
+    NegativeAck {
+        request: number(f, 1),
+        reason: number(f, 2),
+    }
+}
+
+// A kind over 8 makes an abort of reason 8, which is out of range.
+fn kind_at(f: &[u32]) -> Air
+    ensures { λ r. ⌜ r ≡ kindAt (now (f .entry)) ⌝ }
+{
+    let kind = number(f, 0);
+    match kind {
+        0 => Air::CancelEmergency,
+        1 => Air::Demand(acked_at(f)),
+        2 => Air::Emergency(urgent_at(f)),
+        3 => Air::Event(event_at(f)),
+        4 => Air::Negative(negative_at(f)),
+        5 => Air::Noncompliance(number(f, 1)),
+        6 => Air::Periodic(acked_at(f)),
+        7 => Air::Positive(number(f, 1)),
+        8 => Air::Abort(number(f, 1)),
+        _ => Air::Abort(8),
+    }
+}
+
+pub fn air_at(f: &[u32], items: [u8; 128]) -> AirPdu
+    ensures { λ r. ⌜ r ≡ airAt (now (f .entry)) items ⌝ }
+{
+    let kind = kind_at(f);
+    let list = Listed {
+        count: number(f, 3),
+        items,
+    };
+    AirPdu { kind, list }
+}
