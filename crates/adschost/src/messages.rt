@@ -1,0 +1,106 @@
+// PDUs to flat numbers and back.
+use flat::air::air_at;
+use flat::air::flat_air;
+use flat::copy::copy_numbers;
+use flat::ground::flat_ground;
+use flat::ground::ground_at;
+use frame::put::items_of;
+use frame::put::put_items;
+use pdu::AirAnswer;
+use pdu::GroundAnswer;
+use pdu::decode_air;
+use pdu::decode_ground;
+use pdu::encode_air;
+use pdu::encode_ground;
+use pen::Written;
+ghost use mathlib.Core.Path.{_≡_};
+ghost use Rattle.per.specs.Pdu.{readPdu};
+ghost use Rattle.pen.specs.Writing.{writePdu};
+ghost use Rattle.uplink.specs.Table.{groundC};
+ghost use Rattle.downlink.specs.Table.{airC};
+ghost use Rattle.pdu.specs.Answers.{airReading, groundReading};
+ghost use Rattle.frame.specs.Layout.{itemsOf};
+ghost use Rattle.flat.specs.Grounds.{groundAt};
+ghost use Rattle.flat.specs.Airs.{airAt};
+ghost use Rattle.adschost.specs.Flatness.{airShown, ShowsAir, groundShown, ShowsGround, numberOf, lengthOf, WritesFlat};
+
+// An aircraft PDU as 25 numbers and the 128 octets of its list.
+#[no_mangle]
+pub extern "C" fn adsc_read_air(octets: &[u8], numbers: &mut [u32], list: &mut [u8]) -> u8
+    ensures { λ r. ⌜ ShowsAir (airShown (airReading (readPdu airC (now (octets .entry)))) (now (numbers .entry)) (now (list .entry))) r (now (numbers .exit)) (now (list .exit)) ⌝ }
+{
+    let r = decode_air(octets);
+    let answer = r.answer;
+    match answer {
+        AirAnswer::Good(kind) => {
+            if numbers.len() < 25 {
+                return 6;
+            }
+            if list.len() < 128 {
+                return 6;
+            }
+            let listed = r.list;
+            let items = listed.items;
+            let flat = flat_air(kind, listed.count);
+            copy_numbers(&flat, numbers);
+            put_items(&items, list);
+            0
+        }
+        AirAnswer::Refused(n) => n,
+    }
+}
+
+// A ground PDU as nine numbers.
+#[no_mangle]
+pub extern "C" fn adsc_read_ground(octets: &[u8], numbers: &mut [u32]) -> u8
+    ensures { λ r. ⌜ ShowsGround (groundShown (groundReading (readPdu groundC (now (octets .entry)))) (now (numbers .entry))) r (now (numbers .exit)) ⌝ }
+{
+    let answer = decode_ground(octets);
+    match answer {
+        GroundAnswer::Good(g) => {
+            if numbers.len() < 9 {
+                return 6;
+            }
+            let flat = flat_ground(g);
+            copy_numbers(&flat, numbers);
+            0
+        }
+        GroundAnswer::Refused(n) => n,
+    }
+}
+
+// 0 and how many octets were written, or the refusal and the number that stood there.
+fn tell(w: Written, written: &mut usize) -> u8
+    ensures { λ r. ⌜ (r ≡ numberOf w) × (now (written .exit) ≡ lengthOf w (now (written .entry))) ⌝ }
+{
+    match w {
+        Written::Octets(n) => {
+            *written = n;
+            0
+        }
+        Written::Refused(n) => n,
+    }
+}
+
+#[no_mangle]
+pub extern "C" fn adsc_write_air(
+    numbers: &[u32],
+    list: &[u8],
+    out: &mut [u8],
+    written: &mut usize,
+) -> u8
+    ensures { λ r. ⌜ WritesFlat (writePdu airC (airAt (now (numbers .entry)) (itemsOf (now (list .entry)))) (now (out .entry))) (now (written .entry)) r (now (out .exit)) (now (written .exit)) ⌝ }
+{
+    let a = air_at(numbers, items_of(list));
+    let w = encode_air(a, out);
+    tell(w, written)
+}
+
+#[no_mangle]
+pub extern "C" fn adsc_write_ground(numbers: &[u32], out: &mut [u8], written: &mut usize) -> u8
+    ensures { λ r. ⌜ WritesFlat (writePdu groundC (groundAt (now (numbers .entry))) (now (out .entry))) (now (written .entry)) r (now (out .exit)) (now (written .exit)) ⌝ }
+{
+    let g = ground_at(numbers);
+    let w = encode_ground(g, out);
+    tell(w, written)
+}

@@ -1,0 +1,69 @@
+// One call on the record that a host keeps.
+use flat::numbers::number;
+use frame::record::RECORD;
+use frame::record::load;
+use frame::record::save;
+use frame::said::SAID;
+use frame::said::put_said;
+use ground::call::Call;
+use ground::call::answer;
+use ground::fresh::open;
+ghost use mathlib.Core.Path.{_≡_};
+ghost use Rattle.adschost.specs.Hosting.{hosted, Hosts, nineOf, made, Makes};
+
+// The record is read and checked on each call, and written back only where the call is accepted and its answer has room.
+pub(crate) fn step(link: &mut [u8], call: Call, octets: &[u8], out: &mut [u8]) -> u8
+    ensures { λ r. ⌜ Hosts (hosted call (now (octets .entry)) (now (link .entry)) (now (out .entry))) r (now (link .exit)) (now (out .exit)) ⌝ }
+{
+    if link.len() != RECORD {
+        return 29;
+    }
+    let a = answer(load(link), call, octets);
+    let said = a.said;
+    let refusal = said.refusal;
+    if refusal != 0 {
+        return refusal;
+    }
+    if out.len() < SAID {
+        return 6;
+    }
+    let after = a.link;
+    save(after, link);
+    put_said(said, out);
+    0
+}
+
+fn nine(f: &[u32]) -> [u32; 9]
+    ensures { λ r. ⌜ r ≡ nineOf (now (f .entry)) ⌝ }
+{
+    [
+        number(f, 0),
+        number(f, 1),
+        number(f, 2),
+        number(f, 3),
+        number(f, 4),
+        number(f, 5),
+        number(f, 6),
+        number(f, 7),
+        number(f, 8),
+    ]
+}
+
+pub(crate) fn make(settings: &[u32], link: &mut [u8]) -> u8
+    ensures { λ r. ⌜ Makes (made (now (settings .entry)) (now (link .entry))) r (now (link .exit)) ⌝ }
+{
+    if settings.len() != 9 {
+        return 3;
+    }
+    let o = open(nine(settings));
+    let refusal = o.refusal;
+    if refusal != 0 {
+        return refusal;
+    }
+    if link.len() != RECORD {
+        return 6;
+    }
+    let l = o.link;
+    save(l, link);
+    0
+}
