@@ -61,14 +61,19 @@ fn read_items(c: Cursor, s: &[u8], n: usize, top: u8, marked: bool) -> Items
     ensures { λ r. ⌜ Filled (entryC marked top) n (now (s .entry)) c (r .items) (r .next) ⌝ }
 {
     let mut items = [0u8; 128];
-    let mut next = c;
+    let mut at = c.at;
+    let mut refusal = c.refusal;
     let mut i: usize = 0;
     while i < n {
-        let e = read_entry(next, s, top as u32, marked);
+        let here = Cursor { at, refusal };
+        let e = read_entry(here, s, top as u32, marked);
+        let to = e.next;
         items[i] = e.value as u8;
-        next = e.next;
+        at = to.at;
+        refusal = to.refusal;
         i = i + 1;
     }
+    let next = Cursor { at, refusal };
     Items { items, next }
 }
 
@@ -83,14 +88,18 @@ fn write_items(
     requires { ⌜ n ≤ 128 ⌝ }
     ensures { λ r. ⌜ Writes (vec (entryC marked top) n) (now (out .entry)) p (take n items) r (now (out .exit)) ⌝ }
 {
-    let mut next = p;
+    let mut at = p.at;
+    let mut refusal = p.refusal;
     let mut i: usize = 0;
     while i < n {
         let v = items[i];
-        next = write_entry(next, out, v as u32, top as u32, marked);
+        let here = Pen { at, refusal };
+        let to = write_entry(here, out, v as u32, top as u32, marked);
+        at = to.at;
+        refusal = to.refusal;
         i = i + 1;
     }
-    next
+    Pen { at, refusal }
 }
 
 // The count, and then m numbers for each entry.

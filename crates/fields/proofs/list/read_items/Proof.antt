@@ -8,10 +8,11 @@ use Rattle.fields.proofs.list.read_items.Statement.{statement}
 use Rattle.fields.proofs.list.read_items.Tie as tie
 
 abbrev Inv-loop : tie.InvT-loop
-Inv-loop s n top marked items₀ next₀ i₀ items next i = (i ≤ n) × (Filled (entryC marked top) i s next₀ items next)
+Inv-loop s n top marked items₀ at₀ refusal₀ i₀ items at refusal i = (i ≤ n)
+    × (Filled (entryC marked top) i s (record { at = at₀; refusal = refusal₀ }) items (record { at = at; refusal = refusal }))
 
 abbrev μ-loop : tie.MeasureT-loop
-μ-loop s n top marked items₀ next₀ i₀ items next i = n - i
+μ-loop s n top marked items₀ at₀ refusal₀ i₀ items at refusal i = n - i
 
 loop-holds : tie.Need-loop-holds Inv-loop μ-loop
 loop-holds c = (omega arith, filled-none _ _ _)
@@ -20,7 +21,7 @@ read-entry-requires : tie.Need-read-entry-requires Inv-loop μ-loop
 read-entry-requires c κs = tt
 
 cast-items : tie.Need-cast-items Inv-loop μ-loop
-cast-items c = omega (arith, c .before .read-entry .ensures .1)
+cast-items c = omega (arith, c .before .before .read-entry .ensures .1)
 
 array-write-items : tie.Need-array-write-items Inv-loop μ-loop
 array-write-items c = omega arith

@@ -12,10 +12,11 @@ use Rattle.fields.proofs.list.write_items.Statement.{statement}
 use Rattle.fields.proofs.list.write_items.Tie as tie
 
 abbrev Inv-loop : tie.InvT-loop
-Inv-loop out₀ n top marked items next₀ i₀ out next i = (i ≤ n) × (Writes (vec (entryC marked top) i) out₀ next₀ (take i items) next out)
+Inv-loop out₀ n top marked items at₀ refusal₀ i₀ out at refusal i = (i ≤ n)
+    × (Writes (vec (entryC marked top) i) out₀ (record { at = at₀; refusal = refusal₀ }) (take i items) (record { at = at; refusal = refusal }) out)
 
 abbrev μ-loop : tie.MeasureT-loop
-μ-loop out₀ n top marked items next₀ i₀ out next i = n - i
+μ-loop out₀ n top marked items at₀ refusal₀ i₀ out at refusal i = n - i
 
 size : (c : tie.Start Inv-loop μ-loop) → length (c .args .t3) ≡ 128
 size c = search needs
