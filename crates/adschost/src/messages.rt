@@ -2,10 +2,9 @@
 use flat::air::air_at;
 use flat::air::flat_air;
 use flat::copy::copy_numbers;
+use flat::copy::put_items;
 use flat::ground::flat_ground;
 use flat::ground::ground_at;
-use frame::put::items_of;
-use frame::put::put_items;
 use pdu::AirAnswer;
 use pdu::GroundAnswer;
 use pdu::decode_air;
@@ -19,7 +18,6 @@ ghost use Rattle.pen.specs.Writing.{writePdu};
 ghost use Rattle.uplink.specs.Table.{groundC};
 ghost use Rattle.downlink.specs.Table.{airC};
 ghost use Rattle.pdu.specs.Answers.{airReading, groundReading};
-ghost use Rattle.frame.specs.Layout.{itemsOf};
 ghost use Rattle.flat.specs.Grounds.{groundAt};
 ghost use Rattle.flat.specs.Airs.{airAt};
 ghost use Rattle.adschost.specs.Flatness.{airShown, ShowsAir, groundShown, ShowsGround, numberOf, lengthOf, WritesFlat};
@@ -89,9 +87,9 @@ pub extern "C" fn adsc_write_air(
     out: &mut [u8],
     written: &mut usize,
 ) -> u8
-    ensures { λ r. ⌜ WritesFlat (writePdu airC (airAt (now (numbers .entry)) (itemsOf (now (list .entry)))) (now (out .entry))) (now (written .entry)) r (now (out .exit)) (now (written .exit)) ⌝ }
+    ensures { λ r. ⌜ WritesFlat (writePdu airC (airAt (now (numbers .entry)) (now (list .entry))) (now (out .entry))) (now (written .entry)) r (now (out .exit)) (now (written .exit)) ⌝ }
 {
-    let a = air_at(numbers, items_of(list));
+    let a = air_at(numbers, list);
     let w = encode_air(a, out);
     tell(w, written)
 }

@@ -2,10 +2,13 @@
 -- type, the index of a noncompliance or the reason of an abort; 2 the event type or the reason of a negative ack; 3 how many entries the list has;
 -- then a report: 4 presence bits, 5 to 8 latitude (minus, degrees, minutes, tenth-seconds), 9 to 12 longitude alike, 13 level, 14 to 20 year,
 -- month, day, whether there are seconds, hours, minutes, seconds, 21 to 23 merit (accuracy, two booleans), 24 address. What a kind has not is 0.
-use mathlib.Core.Bool.{Bool}
+use mathlib.Core.Bool.{Bool, cond}
 use mathlib.Core.List.{List, [], _∷_}
 use Prim.Native.Nat.{ℕ, zero, suc}
+use lib.Dec.{eqb}
 use lib.ListN.{getD}
+use Rattle.fields.specs.Lists.{noList}
+use Rattle.fields.specs.declared.list.Listed.{Listed}
 use Rattle.fields.specs.declared.report.Fix.{Fix}
 use Rattle.fields.specs.declared.report.Report.{Report}
 use Rattle.downlink.specs.declared.acks.NegativeAck.{NegativeAck}
@@ -15,7 +18,7 @@ use Rattle.downlink.specs.declared.told.EventReport.{EventReport}
 use Rattle.downlink.specs.declared.Air.{Air}
 use Rattle.downlink.specs.declared.Air.the-variants.{CancelEmergency, Demand, Emergency, Event, Negative, Noncompliance, Periodic, Positive, Abort}
 use Rattle.downlink.specs.declared.AirPdu.{AirPdu}
-use Rattle.flat.specs.Numbers.{truth, bitOf, twos, signedOf}
+use Rattle.flat.specs.Numbers.{truth, bitOf, twos, signedOf, itemsOf}
 
 abbrev pub few : ℕ → ℕ → ℕ → ℕ → List ℕ
 few kind a b count = kind ∷ a ∷ b ∷ count ∷ 0 ∷ 0 ∷ 0 ∷ 0 ∷ 0 ∷ 0 ∷ 0 ∷ 0 ∷ 0 ∷ 0 ∷ 0 ∷ 0 ∷ 0 ∷ 0 ∷ 0 ∷ 0 ∷ 0 ∷ 0 ∷ 0 ∷ 0 ∷ 0 ∷ []
@@ -102,5 +105,12 @@ kindBy (suc (suc (suc (suc (suc (suc (suc (suc (suc k))))))))) f = Abort 8
 unfoldable pub kindAt : List ℕ → Air
 kindAt f = kindBy (getD f 0 0) f
 
+-- the list, for the two kinds that carry one
+abbrev pub listedAt : List ℕ → List ℕ → Listed
+listedAt f l = record { count = getD f 3 0; items = itemsOf l }
+
+unfoldable pub listAt : List ℕ → List ℕ → Listed
+listAt f l = cond (eqb (getD f 0 0) 4) (listedAt f l) (cond (eqb (getD f 0 0) 5) (listedAt f l) noList)
+
 unfoldable pub airAt : List ℕ → List ℕ → AirPdu
-airAt f items = record { kind = kindAt f; list = record { count = getD f 3 0; items = items } }
+airAt f l = record { kind = kindAt f; list = listAt f l }

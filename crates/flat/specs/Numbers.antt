@@ -1,7 +1,10 @@
 -- What stands at one place of a flat list, which holds numbers below 2^32.
 use mathlib.Core.Bool.{Bool, true, false, not}
+use mathlib.Core.List.{List}
 use Prim.Native.Nat.{ℕ}
 use lib.Dec.{eqb}
+use lib.ListN.{replicate}
+use lib.Seq.{sets}
 use lib.IntN.{ℤ}
 use mir.Syntax.{w32}
 use mir.Val.{toZ, ofZ}
@@ -21,3 +24,7 @@ twos z = ofZ w32 z
 
 unfoldable pub signedOf : ℕ → Signed
 signedOf n = record { number = toZ w32 n }
+
+-- a list's octets in 128, zeros where there are none; what stands after the 128th is not looked at
+unfoldable pub itemsOf : List ℕ → List ℕ
+itemsOf s = sets (replicate 128 0) 0 s

@@ -1,4 +1,5 @@
 // Aircraft PDUs as 25 numbers, with the list's octets beside them.
+use crate::copy::items_of;
 use crate::numbers::bit;
 use crate::numbers::complement;
 use crate::numbers::number;
@@ -11,6 +12,7 @@ use downlink::told::AckedEmergency;
 use downlink::told::AckedReport;
 use downlink::told::EventReport;
 use fields::list::Listed;
+use fields::list::no_list;
 use fields::position::Angle;
 use fields::position::Position;
 use fields::report::EmergencyReport;
@@ -19,7 +21,7 @@ use fields::report::Report;
 use fields::time::Merit;
 use fields::time::Time;
 ghost use mathlib.Core.Path.{_≡_};
-ghost use Rattle.flat.specs.Airs.{few, flatFix, flatAcked, flatUrgent, flatEvent, flatAir, fixAt, reportAt, ackedAt, urgentAt, eventAt, negativeAt, kindAt, airAt};
+ghost use Rattle.flat.specs.Airs.{few, flatFix, flatAcked, flatUrgent, flatEvent, flatAir, fixAt, reportAt, ackedAt, urgentAt, eventAt, negativeAt, kindAt, listedAt, listAt, airAt};
 
 // A kind without a report.
 fn few_of(kind: u32, a: u32, b: u32, count: u32) -> [u32; 25]
@@ -265,13 +267,32 @@ fn kind_at(f: &[u32]) -> Air
     }
 }
 
-pub fn air_at(f: &[u32], items: [u8; 128]) -> AirPdu
-    ensures { λ r. ⌜ r ≡ airAt (now (f .entry)) items ⌝ }
+fn listed_at(f: &[u32], list: &[u8]) -> Listed
+    ensures { λ r. ⌜ r ≡ listedAt (now (f .entry)) (now (list .entry)) ⌝ }
 {
-    let kind = kind_at(f);
-    let list = Listed {
+    let items = items_of(list);
+    Listed {
         count: number(f, 3),
         items,
-    };
+    }
+}
+
+// Only a negative ack and a noncompliance carry a list: for the others none is copied.
+fn list_at(f: &[u32], list: &[u8]) -> Listed
+    ensures { λ r. ⌜ r ≡ listAt (now (f .entry)) (now (list .entry)) ⌝ }
+{
+    let kind = number(f, 0);
+    match kind {
+        4 => listed_at(f, list),
+        5 => listed_at(f, list),
+        _ => no_list(),
+    }
+}
+
+pub fn air_at(f: &[u32], list: &[u8]) -> AirPdu
+    ensures { λ r. ⌜ r ≡ airAt (now (f .entry)) (now (list .entry)) ⌝ }
+{
+    let kind = kind_at(f);
+    let list = list_at(f, list);
     AirPdu { kind, list }
 }

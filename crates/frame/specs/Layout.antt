@@ -2,8 +2,7 @@
 use mathlib.Core.List.{List, [], _∷_, _++_}
 use Prim.Native.Nat.{ℕ, zero, suc, _+_, _*_, _/_, _%_}
 use lib.Dec.{ltb}
-use lib.ListN.{getD, replicate}
-use lib.Seq.{sets}
+use lib.ListN.{getD}
 use Rattle.moves.specs.Tests.{pick}
 use Rattle.link.specs.declared.record.Link.{Link}
 use Rattle.ground.specs.declared.answer.Said.{Said}
@@ -52,7 +51,3 @@ saidOctets s =
     let a = s .acts .list in
     let o = s .sent .octets in
     w / 16777216 ∷ w / 65536 % 256 ∷ w / 256 % 256 ∷ w % 256 ∷ most8 (s .acts .n) ∷ getD a 0 0 ∷ getD a 1 0 ∷ getD a 2 0 ∷ getD a 3 0 ∷ getD a 4 0 ∷ getD a 5 0 ∷ getD a 6 0 ∷ getD a 7 0 ∷ most8 (s .sent .n) ∷ getD o 0 0 ∷ getD o 1 0 ∷ getD o 2 0 ∷ getD o 3 0 ∷ getD o 4 0 ∷ getD o 5 0 ∷ getD o 6 0 ∷ getD o 7 0 ∷ []
-
--- a list's octets in 128, zeros where there are none
-unfoldable pub itemsOf : List ℕ → List ℕ
-itemsOf s = sets (replicate 128 0) 0 s

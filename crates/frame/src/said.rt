@@ -1,5 +1,5 @@
 // What a call says, in 22 octets. The refusal is not among them: a refused call writes nothing.
-use crate::put::put_octets;
+use flat::copy::put_octets;
 use ground::answer::Said;
 ghost use mathlib.Core.Path.{_≡_};
 ghost use Prim.Native.Nat.{_≤_};

@@ -1,9 +1,12 @@
 -- A value's numbers are that value's again. A level is one that 32 bits hold, as every level in a declared value is.
-use Prim.Native.Nat.{ℕ, _^_, _<_}
-use mathlib.Core.Path.{_≡_, refl, ap}
-use mathlib.Core.Bool.{Bool, true, false}
-use mathlib.Core.List.{List}
-use lib.ListN.{getD}
+use Prim.Native.Nat.{ℕ, _+_, _^_, _≤_, _<_}
+use mathlib.Core.Path.{_≡_, refl, ap, _∙_}
+use mathlib.Core.Bool.{Bool, true, false, cond}
+use mathlib.Core.List.{List, _++_, append-nil}
+use native.Mathlib.Omega.{arith}
+use lib.Dec.{eqb}
+use lib.ListN.{length, getD, replicate, drop-of-length-le}
+use lib.Seq.{sets-eq}
 use lib.IntN.{ℤ, pos}
 use lib.Signed.{mag}
 use mir.Facts.{toZ-ofZ}
@@ -16,10 +19,14 @@ use Rattle.downlink.specs.declared.told.AckedReport.{AckedReport}
 use Rattle.downlink.specs.declared.told.AckedEmergency.{AckedEmergency}
 use Rattle.downlink.specs.declared.told.EventReport.{EventReport}
 use Rattle.downlink.specs.declared.Air.{Air}
+use Rattle.downlink.specs.declared.AirPdu.{AirPdu}
+use Rattle.downlink.specs.Table.{kindTag}
+use Rattle.fields.specs.Lists.{noList}
+use Rattle.fields.specs.declared.list.Listed.{Listed}
 use Rattle.downlink.specs.declared.Air.the-variants as air
-use Rattle.flat.specs.Numbers.{truth, bitOf, twos, signedOf}
+use Rattle.flat.specs.Numbers.{truth, bitOf, twos, signedOf, itemsOf}
 use Rattle.flat.specs.Grounds.{intervalOf, scaleOf, timesOf, flatGround, groundAt}
-use Rattle.flat.specs.Airs.{flatFix, flatAcked, flatUrgent, flatEvent, flatAir, fixAt, reportAt, ackedAt, urgentAt, eventAt, kindAt}
+use Rattle.flat.specs.Airs.{flatFix, flatAcked, flatUrgent, flatEvent, flatAir, fixAt, reportAt, ackedAt, urgentAt, eventAt, kindAt, listAt, airAt}
 
 pub truth-bit : (b : Bool) → truth (bitOf b) ≡ b
 unfolding truth
@@ -119,3 +126,31 @@ air-back (air.Noncompliance n) count f = refl
 air-back (air.Periodic a) count f = rw (kind-there 6 (a .ack) 0 (a .report .elements) (a .report .fix) (a .report .address)) (ap air.Periodic (acked-back 6 a f))
 air-back (air.Positive n) count f = refl
 air-back (air.Abort n) count f = refl
+
+items-back : (s : List ℕ) → length s ≡ 128 → itemsOf s ≡ s
+unfolding itemsOf
+items-back s h =
+    let m : 128 ≤ 0 + length s = omega (arith, h) in
+    sets-eq s (replicate 128 0) 0 (omega (arith, h)) ∙ ap (λ (r : List ℕ). s ++ r) (drop-of-length-le (replicate 128 0) m) ∙ append-nil s
+
+-- the list that a PDU of a kind has: its own, or none where the kind carries none
+abbrev pub listFor : Air → Listed → Listed
+listFor k x = cond (eqb (kindTag k) 4) x (cond (eqb (kindTag k) 5) x noList)
+
+list-there : (k : Air) (x : Listed) → length (x .items) ≡ 128 → listAt (flatAir k (x .count)) (x .items) ≡ listFor k x
+unfolding listAt flatAir
+list-there air.CancelEmergency x h = refl
+list-there (air.Demand a) x h = rw (kind-there 1 (a .ack) 0 (a .report .elements) (a .report .fix) (a .report .address))
+list-there (air.Emergency a) x h = rw (kind-there 2 (a .ack) 0 (a .report .elements) (a .report .fix) (a .report .address))
+list-there (air.Event a) x h = rw (kind-there 3 (a .ack) (a .event) (a .report .elements) (a .report .fix) (a .report .address))
+list-there (air.Negative a) x h = rw (items-back (x .items) h)
+list-there (air.Noncompliance n) x h = rw (items-back (x .items) h)
+list-there (air.Periodic a) x h = rw (kind-there 6 (a .ack) 0 (a .report .elements) (a .report .fix) (a .report .address))
+list-there (air.Positive n) x h = refl
+list-there (air.Abort n) x h = refl
+
+-- every PDU that is read, from its numbers and its list's 128 octets
+pub pdu-back : (a : AirPdu) → mag (levelIn (a .kind)) < 2 ^ 31 → length (a .list .items) ≡ 128 → listFor (a .kind) (a .list) ≡ a .list
+    → airAt (flatAir (a .kind) (a .list .count)) (a .list .items) ≡ a
+unfolding airAt
+pdu-back a f h e = rw (air-back (a .kind) (a .list .count) f, list-there (a .kind) (a .list) h, e)

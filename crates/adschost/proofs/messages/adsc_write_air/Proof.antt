@@ -1,13 +1,8 @@
-use mathlib.Core.Path.{ap, _∙_}
 use Rattle.downlink.specs.Table.{airC}
-use Rattle.flat.specs.Airs.{airAt}
 use Rattle.adschost.proofs.Ways.{written-so}
 use borrow.Author.Needs.{needs}
 use Rattle.adschost.proofs.messages.adsc_write_air.Statement.{statement}
 use Rattle.adschost.proofs.messages.adsc_write_air.Tie as tie
-
-items-of-requires : tie.Need-items-of-requires
-items-of-requires c κs = search needs
 
 air-at-requires : tie.Need-air-at-requires
 air-at-requires c κs = search needs
@@ -23,15 +18,15 @@ same-length c = search needs
 
 returns : tie.Need-returns
 returns c =
-    let k = c .before .before .before .before .before .before .before .before .before .before .before .args in
+    let k = c .before .before .before .before .before .before .before .before .before .before .args in
     let a = c .before .before .before .before .before .before .air-at in
-    written-so airC (a .result) _ (a .ensures ∙ ap (airAt (k .numbers .now)) (c .before .before .before .before .before .before .before .items-of .ensures)) (k .out .now) (c .before .before .before .before .encode-air .result) _ (c .before .before .before .before .encode-air .ensures) (k .written .now) _ _ (c .tell .ensures)
+    let w = c .before .before .before .before .encode-air in
+    written-so airC (a .result) _ (a .ensures) (k .out .now) (w .result) _ (w .ensures) (k .written .now) _ _ (c .tell .ensures)
 
 pub adsc-write-air-spec : {M : Type 1} → statement M
 adsc-write-air-spec =
     tie.close
     (tie.spec
-    items-of-requires
     air-at-requires
     encode-air-requires
     tell-requires

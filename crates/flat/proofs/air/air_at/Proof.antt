@@ -6,15 +6,12 @@ use Rattle.flat.proofs.air.air_at.Tie as tie
 kind-at-requires : tie.Need-kind-at-requires
 kind-at-requires c κs = search needs
 
-number-requires : tie.Need-number-requires
-number-requires c κs = search needs
+list-at-requires : tie.Need-list-at-requires
+list-at-requires c κs = search needs
 
 returns : tie.Need-returns
 unfolding airAt
-returns c =
-    let p0 = c in
-    let p1 = p0 .before in
-    rw (p1 .kind-at .ensures, p0 .number .ensures)
+returns c = rw (c .before .kind-at .ensures, c .list-at .ensures)
 
 pub air-at-spec : {M : Type 1} → statement M
-air-at-spec = tie.close (tie.spec kind-at-requires number-requires returns)
+air-at-spec = tie.close (tie.spec kind-at-requires list-at-requires returns)

@@ -4,7 +4,8 @@ use native.Mathlib.Omega.{arith}
 use lib.ListN.{length, getD, drop}
 use lib.Seq.{sets, length-sets}
 use Rattle.frame.specs.Layout.{quad, quads}
-use Rattle.frame.proofs.Puts.{put-start, quads-step, quads-end}
+use Rattle.flat.proofs.Puts.{put-start}
+use Rattle.frame.proofs.Puts.{quads-step, quads-end}
 use borrow.Author.Needs.{needs}
 use Rattle.frame.proofs.put.put_words.Statement.{statement}
 use Rattle.frame.proofs.put.put_words.Tie as tie

@@ -3,10 +3,10 @@ use mathlib.Core.Path.{_≡_, refl, sym, _∙_}
 use native.Mathlib.Omega.{arith}
 use lib.ListN.{length, drop, length-set}
 use lib.Seq.{sets}
-use Rattle.frame.proofs.Puts.{put-start, put-step, put-end}
+use Rattle.flat.proofs.Puts.{put-start, put-step, put-end}
 use borrow.Author.Needs.{needs}
-use Rattle.frame.proofs.put.put_octets.Statement.{statement}
-use Rattle.frame.proofs.put.put_octets.Tie as tie
+use Rattle.flat.proofs.copy.put_octets.Statement.{statement}
+use Rattle.flat.proofs.copy.put_octets.Tie as tie
 
 abbrev Inv-loop : tie.InvT-loop
 Inv-loop out₀ at s i₀ out i = (i ≤ length s) × (length out ≡ length out₀) × (sets out (at + i) (drop i s) ≡ sets out₀ at s)

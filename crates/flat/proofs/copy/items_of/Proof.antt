@@ -1,10 +1,10 @@
 use mathlib.Core.Path.{sym, _∙_}
 use native.Mathlib.Omega.{arith}
 use lib.Seq.{length-take-le}
-use Rattle.frame.proofs.Puts.{items-cut}
+use Rattle.flat.proofs.Puts.{items-cut}
 use borrow.Author.Needs.{needs}
-use Rattle.frame.proofs.put.items_of.Statement.{statement}
-use Rattle.frame.proofs.put.items_of.Tie as tie
+use Rattle.flat.proofs.copy.items_of.Statement.{statement}
+use Rattle.flat.proofs.copy.items_of.Tie as tie
 
 least-requires : tie.Need-least-requires
 least-requires c κs = search needs
