@@ -3,14 +3,14 @@ use mathlib.Core.Path.{_≡_}
 use mathlib.Core.List.{List, [], _∷_}
 use Prim.Native.Nat.{ℕ}
 use lib.Dec.{eqb, ltb}
-use lib.ListN.{length, getD}
+use lib.ListN.{length, getD, replicate}
 use lib.Seq.{sets}
 use Rattle.moves.specs.Tests.{pick}
 use Rattle.ground.specs.declared.answer.Answer.{Answer}
 use Rattle.ground.specs.declared.fresh.Opened.{Opened}
 use Rattle.ground.specs.declared.call.Call.{Call}
 use Rattle.ground.specs.Fresh.{opened}
-use Rattle.ground.specs.Runs.{answered}
+use Rattle.ground.specs.Runs.{answered, Made}
 use Rattle.frame.specs.Layout.{linkOf, recordOctets, saidOctets}
 
 -- the number that a call gives, and the two buffers after it
@@ -33,6 +33,11 @@ told s o a =
 unfoldable pub hosted : Call → List ℕ → List ℕ → List ℕ → Done
 hosted call octets s o = pick (eqb (length s) 77) (told s o (answered (linkOf s) call octets)) (left 29 s o)
 
+-- the record after a sequence of calls, each with room for its answer
+unfoldable pub kept : List ℕ → List Made → List ℕ
+kept s [] = s
+kept s (c ∷ cs) = kept (hosted (c .call) (c .octets) s (replicate 22 0) .link) cs
+
 pub record Hosts (d : Done) (r : ℕ) (link answer : List ℕ) : Type 0 where
   pub number-is : r ≡ d .number
   pub link-is : link ≡ d .link
@@ -43,20 +48,20 @@ unfoldable pub nineOf : List ℕ → List ℕ
 nineOf f =
     getD f 0 0 ∷ getD f 1 0 ∷ getD f 2 0 ∷ getD f 3 0 ∷ getD f 4 0 ∷ getD f 5 0 ∷ getD f 6 0 ∷ getD f 7 0 ∷ getD f 8 0 ∷ []
 
-pub record Made : Type 0 where
+pub record Opening : Type 0 where
   pub number : ℕ
   pub link : List ℕ
 
-unfoldable pub opensInto : List ℕ → Opened → Made
+unfoldable pub opensInto : List ℕ → Opened → Opening
 opensInto s o =
     pick (eqb (o .refusal) 0)
     (pick (eqb (length s) 77) (record { number = 0; link = recordOctets (o .link) }) (record { number = 6; link = s }))
     (record { number = o .refusal; link = s })
 
 -- other than nine settings: 3
-unfoldable pub made : List ℕ → List ℕ → Made
+unfoldable pub made : List ℕ → List ℕ → Opening
 made f s = pick (eqb (length f) 9) (opensInto s (opened (nineOf f))) (record { number = 3; link = s })
 
-pub record Makes (d : Made) (r : ℕ) (link : List ℕ) : Type 0 where
+pub record Makes (d : Opening) (r : ℕ) (link : List ℕ) : Type 0 where
   pub number-is : r ≡ d .number
   pub link-is : link ≡ d .link
