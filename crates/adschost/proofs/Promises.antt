@@ -1,15 +1,29 @@
 -- What is promised of the calls on lent octets. Assumes nothing.
-use Prim.Native.Nat.{ℕ}
+use Prim.Native.Nat.{ℕ, _^_, _<_}
 use mathlib.Core.Path.{_≡_, refl, sym, ap, _∙_}
 use mathlib.Core.Bool.{Bool, true, false}
 use mathlib.Core.List.{List, [], _∷_}
 use lib.Dec.{eqb, ltb}
-use lib.ListN.{length, replicate}
+use lib.ListN.{length, getD, replicate}
+use lib.Signed.{mag}
 use lib.Seq.{sets}
 use borrow.Author.Tests.{eq-eqb}
 use Rattle.moves.specs.Tests.{pick}
 use Rattle.moves.proofs.Laws.{no-true}
+use Rattle.per.specs.Pdu.{encode, got, readPdu}
 use Rattle.pen.specs.Writing.{Delivered}
+use Rattle.fields.specs.declared.list.Listed.{Listed}
+use Rattle.uplink.specs.declared.Ground.{Ground}
+use Rattle.uplink.specs.Table.{groundC}
+use Rattle.downlink.specs.declared.Air.{Air}
+use Rattle.downlink.specs.declared.Air.the-variants as air
+use Rattle.downlink.specs.declared.AirPdu.{AirPdu}
+use Rattle.downlink.specs.Table.{airC}
+use Rattle.downlink.proofs.Norms.{air-norm}
+use Rattle.pdu.proofs.Promises.{air-read, ground-read}
+use Rattle.flat.specs.Grounds.{flatGround, groundAt}
+use Rattle.flat.specs.Airs.{flatAir, airAt}
+use Rattle.flat.specs.laws.Back.{levelIn, listFor, pdu-back, ground-back}
 use Rattle.link.specs.declared.record.Link.{Link}
 use Rattle.link.proofs.Keeps.{Shaped, Sound}
 use Rattle.ground.specs.declared.answer.Answer.{Answer}
@@ -97,3 +111,25 @@ unfolding kept after
 host-run l [] s = refl
 host-run l (c ∷ cs) s =
     ap (λ (x : List ℕ). kept x cs) (host-step l c (s .shape)) ∙ host-run (reply l c .link) cs (after-sound l (c ∷ []) s)
+
+-- ---- "every octet string accepted writes back the same", through the numbers
+list-own : (k : Air) (l : Listed) → airC .norm (record { kind = k; list = l }) ≡ record { kind = k; list = l } → listFor k l ≡ l
+list-own air.CancelEmergency l e = ap (λ (x : AirPdu). x .list) (sym (air-norm air.CancelEmergency l) ∙ e)
+list-own (air.Demand a) l e = ap (λ (x : AirPdu). x .list) (sym (air-norm (air.Demand a) l) ∙ e)
+list-own (air.Emergency a) l e = ap (λ (x : AirPdu). x .list) (sym (air-norm (air.Emergency a) l) ∙ e)
+list-own (air.Event a) l e = ap (λ (x : AirPdu). x .list) (sym (air-norm (air.Event a) l) ∙ e)
+list-own (air.Negative a) l e = refl
+list-own (air.Noncompliance n) l e = refl
+list-own (air.Periodic a) l e = ap (λ (x : AirPdu). x .list) (sym (air-norm (air.Periodic a) l) ∙ e)
+list-own (air.Positive n) l e = ap (λ (x : AirPdu). x .list) (sym (air-norm (air.Positive n) l) ∙ e)
+list-own (air.Abort n) l e = ap (λ (x : AirPdu). x .list) (sym (air-norm (air.Abort n) l) ∙ e)
+
+-- a declared value's level fits in 32 bits, and its list has 128 octets
+pub air-round : (s : List ℕ) (a : AirPdu) → ((i : ℕ) → getD s i 0 < 256) → readPdu airC s ≡ got a → mag (levelIn (a .kind)) < 2 ^ 31 → length (a .list .items) ≡ 128
+    → encode airC (airAt (flatAir (a .kind) (a .list .count)) (a .list .items)) ≡ s
+air-round s a f e level long =
+    let k = air-read s a f e in
+    ap (encode airC) (pdu-back a level long (list-own (a .kind) (a .list) (k .1))) ∙ k .2
+
+pub ground-round : (s : List ℕ) (g : Ground) → ((i : ℕ) → getD s i 0 < 256) → readPdu groundC s ≡ got g → encode groundC (groundAt (flatGround g)) ≡ s
+ground-round s g f e = ap (encode groundC) (ground-back g) ∙ ground-read s g f e .2
