@@ -5,7 +5,7 @@
 use mathlib.Core.Bool.{Bool, cond}
 use mathlib.Core.List.{List, [], _∷_}
 use Prim.Native.Nat.{ℕ, zero, suc}
-use lib.Dec.{eqb}
+use lib.Dec.{eqb, ltb}
 use lib.ListN.{getD}
 use Rattle.fields.specs.Lists.{noList}
 use Rattle.fields.specs.declared.list.Listed.{Listed}
@@ -18,7 +18,7 @@ use Rattle.downlink.specs.declared.told.EventReport.{EventReport}
 use Rattle.downlink.specs.declared.Air.{Air}
 use Rattle.downlink.specs.declared.Air.the-variants.{CancelEmergency, Demand, Emergency, Event, Negative, Noncompliance, Periodic, Positive, Abort}
 use Rattle.downlink.specs.declared.AirPdu.{AirPdu}
-use Rattle.flat.specs.Numbers.{truth, bitOf, twos, signedOf, itemsOf}
+use Rattle.flat.specs.Numbers.{truth, numberBy, bitOf, twos, signedOf, itemsOf}
 
 abbrev pub few : ℕ → ℕ → ℕ → ℕ → List ℕ
 few kind a b count = kind ∷ a ∷ b ∷ count ∷ 0 ∷ 0 ∷ 0 ∷ 0 ∷ 0 ∷ 0 ∷ 0 ∷ 0 ∷ 0 ∷ 0 ∷ 0 ∷ 0 ∷ 0 ∷ 0 ∷ 0 ∷ 0 ∷ 0 ∷ 0 ∷ 0 ∷ 0 ∷ 0 ∷ []
@@ -52,13 +52,16 @@ flatAir (Positive n) count = few 7 n 0 0
 flatAir (Abort n) count = few 8 n 0 0
 
 -- and back. Numbers that are not there are 0. A kind over 8 gives an abort of reason 8, which the writer refuses with 5
+unfoldable pub accuracyAt : List ℕ → ℕ
+accuracyAt f = cond (ltb (getD f 22 0) 2) (numberBy f 23 21) 4294967295
+
 unfoldable pub fixAt : List ℕ → Fix
 fixAt f =
     record {
       position =
           record {
-            latitude = record { minus = truth (getD f 5 0); degrees = getD f 6 0; minutes = getD f 7 0; tenths = getD f 8 0 };
-            longitude = record { minus = truth (getD f 9 0); degrees = getD f 10 0; minutes = getD f 11 0; tenths = getD f 12 0 };
+            latitude = record { minus = truth (getD f 5 0); degrees = numberBy f 5 6; minutes = getD f 7 0; tenths = getD f 8 0 };
+            longitude = record { minus = truth (getD f 9 0); degrees = numberBy f 9 10; minutes = getD f 11 0; tenths = getD f 12 0 };
             level = signedOf (getD f 13 0);
           };
       time =
@@ -67,22 +70,22 @@ fixAt f =
             month = getD f 15 0;
             day = getD f 16 0;
             «has_seconds» = truth (getD f 17 0);
-            hours = getD f 18 0;
+            hours = numberBy f 17 18;
             minutes = getD f 19 0;
             seconds = getD f 20 0;
           };
-      merit = record { accuracy = getD f 21 0; units = truth (getD f 22 0); avoidance = truth (getD f 23 0) };
+      merit = record { accuracy = accuracyAt f; units = truth (getD f 22 0); avoidance = truth (getD f 23 0) };
     }
 
 unfoldable pub reportAt : List ℕ → Report
-reportAt f = record { elements = getD f 4 0; fix = fixAt f; address = getD f 24 0 }
+reportAt f = record { elements = numberBy f 1 4; fix = fixAt f; address = getD f 24 0 }
 
 unfoldable pub ackedAt : List ℕ → AckedReport
 ackedAt f = record { ack = truth (getD f 1 0); report = reportAt f }
 
 unfoldable pub urgentAt : List ℕ → AckedEmergency
 urgentAt f =
-    record { ack = truth (getD f 1 0); report = record { elements = getD f 4 0; fix = fixAt f; address = getD f 24 0 } }
+    record { ack = truth (getD f 1 0); report = record { elements = numberBy f 1 4; fix = fixAt f; address = getD f 24 0 } }
 
 unfoldable pub eventAt : List ℕ → EventReport
 eventAt f = record { ack = truth (getD f 1 0); event = getD f 2 0; report = reportAt f }

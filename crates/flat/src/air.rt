@@ -3,6 +3,7 @@ use crate::copy::items_of;
 use crate::numbers::bit;
 use crate::numbers::complement;
 use crate::numbers::number;
+use crate::numbers::number_by;
 use crate::numbers::signed_at;
 use crate::numbers::truth_at;
 use downlink::Air;
@@ -21,7 +22,7 @@ use fields::report::Report;
 use fields::time::Merit;
 use fields::time::Time;
 ghost use mathlib.Core.Path.{_≡_};
-ghost use Rattle.flat.specs.Airs.{few, flatFix, flatAcked, flatUrgent, flatEvent, flatAir, fixAt, reportAt, ackedAt, urgentAt, eventAt, negativeAt, kindAt, listedAt, listAt, airAt};
+ghost use Rattle.flat.specs.Airs.{few, flatFix, flatAcked, flatUrgent, flatEvent, flatAir, accuracyAt, fixAt, reportAt, ackedAt, urgentAt, eventAt, negativeAt, kindAt, listedAt, listAt, airAt};
 
 // A kind without a report.
 fn few_of(kind: u32, a: u32, b: u32, count: u32) -> [u32; 25]
@@ -151,14 +152,14 @@ fn position_at(f: &[u32]) -> Position
     let la = truth_at(f, 5);
     let latitude = Angle {
         minus: la,
-        degrees: number(f, 6),
+        degrees: number_by(f, 5, 6),
         minutes: number(f, 7),
         tenths: number(f, 8),
     };
     let lo = truth_at(f, 9);
     let longitude = Angle {
         minus: lo,
-        degrees: number(f, 10),
+        degrees: number_by(f, 9, 10),
         minutes: number(f, 11),
         tenths: number(f, 12),
     };
@@ -170,6 +171,14 @@ fn position_at(f: &[u32]) -> Position
     }
 }
 
+// Two truth values stand beside the accuracy.
+fn accuracy_at(f: &[u32]) -> u32
+    ensures { λ r. ⌜ r ≡ accuracyAt (now (f .entry)) ⌝ }
+{
+    let v = number_by(f, 23, 21);
+    if number(f, 22) < 2 { v } else { 4294967295 }
+}
+
 fn fix_at(f: &[u32]) -> Fix
     ensures { λ r. ⌜ r ≡ fixAt (now (f .entry)) ⌝ }
 {
@@ -179,12 +188,12 @@ fn fix_at(f: &[u32]) -> Fix
         month: number(f, 15),
         day: number(f, 16),
         has_seconds: truth_at(f, 17),
-        hours: number(f, 18),
+        hours: number_by(f, 17, 18),
         minutes: number(f, 19),
         seconds: number(f, 20),
     };
     let merit = Merit {
-        accuracy: number(f, 21),
+        accuracy: accuracy_at(f),
         units: truth_at(f, 22),
         avoidance: truth_at(f, 23),
     };
@@ -200,7 +209,7 @@ fn report_at(f: &[u32]) -> Report
 {
     let fix = fix_at(f);
     Report {
-        elements: number(f, 4),
+        elements: number_by(f, 1, 4),
         fix,
         address: number(f, 24),
     }
@@ -220,7 +229,7 @@ fn urgent_at(f: &[u32]) -> AckedEmergency
     let ack = truth_at(f, 1);
     let fix = fix_at(f);
     let report = EmergencyReport {
-        elements: number(f, 4),
+        elements: number_by(f, 1, 4),
         fix,
         address: number(f, 24),
     };

@@ -2,7 +2,7 @@
 use per::cursor::Signed;
 ghost use mathlib.Core.Path.{_≡_};
 ghost use lib.ListN.{getD};
-ghost use Rattle.flat.specs.Numbers.{truth, bitOf, twos, signedOf};
+ghost use Rattle.flat.specs.Numbers.{truth, numberBy, bitOf, twos, signedOf};
 
 pub fn number(f: &[u32], i: usize) -> u32
     ensures { λ r. ⌜ r ≡ getD (now (f .entry)) i 0 ⌝ }
@@ -10,11 +10,18 @@ pub fn number(f: &[u32], i: usize) -> u32
     if i < f.len() { f[i] } else { 0 }
 }
 
-// As in C, each number but 0 is true.
 pub(crate) fn truth_at(f: &[u32], i: usize) -> bool
     ensures { λ r. ⌜ r ≡ truth (getD (now (f .entry)) i 0) ⌝ }
 {
     number(f, i) != 0
+}
+
+// The number at i; one that is in no range where the truth value at `flag`, which the writer cannot judge, is neither 0 nor 1.
+pub(crate) fn number_by(f: &[u32], flag: usize, i: usize) -> u32
+    ensures { λ r. ⌜ r ≡ numberBy (now (f .entry)) flag i ⌝ }
+{
+    let v = number(f, i);
+    if number(f, flag) < 2 { v } else { 4294967295 }
 }
 
 pub(crate) fn bit(b: bool) -> u32

@@ -4,7 +4,7 @@ use mathlib.Core.Path.{_≡_, refl, ap, _∙_}
 use mathlib.Core.Bool.{Bool, true, false, cond}
 use mathlib.Core.List.{List, _++_, append-nil}
 use native.Mathlib.Omega.{arith}
-use lib.Dec.{eqb}
+use lib.Dec.{eqb, ltb}
 use lib.ListN.{length, getD, replicate, drop-of-length-le}
 use lib.Seq.{sets-eq}
 use lib.IntN.{ℤ, pos}
@@ -24,9 +24,9 @@ use Rattle.downlink.specs.Table.{kindTag}
 use Rattle.fields.specs.Lists.{noList}
 use Rattle.fields.specs.declared.list.Listed.{Listed}
 use Rattle.downlink.specs.declared.Air.the-variants as air
-use Rattle.flat.specs.Numbers.{truth, bitOf, twos, signedOf, itemsOf}
+use Rattle.flat.specs.Numbers.{truth, numberBy, bitOf, twos, signedOf, itemsOf}
 use Rattle.flat.specs.Grounds.{intervalOf, scaleOf, timesOf, flatGround, groundAt}
-use Rattle.flat.specs.Airs.{flatFix, flatAcked, flatUrgent, flatEvent, flatAir, fixAt, reportAt, ackedAt, urgentAt, eventAt, kindAt, listAt, airAt}
+use Rattle.flat.specs.Airs.{flatFix, flatAcked, flatUrgent, flatEvent, flatAir, fixAt, reportAt, ackedAt, urgentAt, eventAt, kindAt, listAt, airAt, accuracyAt}
 
 pub truth-bit : (b : Bool) → truth (bitOf b) ≡ b
 unfolding truth
@@ -56,10 +56,15 @@ level-back z f = ap (λ (y : ℤ). record { number = y }) (toZ-ofZ (record { sfi
 abbrev pub levelFits : Fix → Type 0
 levelFits x = mag (x .position .level .number) < 2 ^ 31
 
+bit-small : (b : Bool) → ltb (bitOf b) 2 ≡ true
+bit-small true = refl
+bit-small false = refl
+
 pub fix-back : (kind : ℕ) (ack : Bool) (event elements : ℕ) (x : Fix) (address : ℕ) → levelFits x → fixAt (flatFix kind ack event elements x address) ≡ x
-unfolding fixAt flatFix
+unfolding fixAt flatFix numberBy accuracyAt
 fix-back kind ack event elements x address f =
-    rw (truth-bit (x .position .latitude .minus), truth-bit (x .position .longitude .minus), level-back (x .position .level .number) f, truth-bit (x .time .«has_seconds»), truth-bit (x .merit .units), truth-bit (x .merit .avoidance))
+    rw (bit-small (x .position .latitude .minus), bit-small (x .position .longitude .minus), bit-small (x .time .«has_seconds»), bit-small (x .merit .units), bit-small (x .merit .avoidance))
+    (rw (truth-bit (x .position .latitude .minus), truth-bit (x .position .longitude .minus), level-back (x .position .level .number) f, truth-bit (x .time .«has_seconds»), truth-bit (x .merit .units), truth-bit (x .merit .avoidance)))
 
 module _ (kind : ℕ) (ack : Bool) (event elements : ℕ) (x : Fix) (address : ℕ) where
   abbrev list : List ℕ
@@ -77,9 +82,9 @@ module _ (kind : ℕ) (ack : Bool) (event elements : ℕ) (x : Fix) (address : �
   unfolding flatFix
   event-there = refl
 
-  elements-there : getD list 4 0 ≡ elements
-  unfolding flatFix
-  elements-there = refl
+  elements-there : numberBy list 1 4 ≡ elements
+  unfolding flatFix numberBy
+  elements-there = rw (bit-small ack)
 
   address-there : getD list 24 0 ≡ address
   unfolding flatFix

@@ -18,17 +18,17 @@ number-requires-3 c κs = search needs
 truth-at-requires : tie.Need-truth-at-requires
 truth-at-requires c κs = search needs
 
+number-by-requires : tie.Need-number-by-requires
+number-by-requires c κs = search needs
+
 number-requires-4 : tie.Need-number-requires-4
 number-requires-4 c κs = search needs
 
 number-requires-5 : tie.Need-number-requires-5
 number-requires-5 c κs = search needs
 
-number-requires-6 : tie.Need-number-requires-6
-number-requires-6 c κs = search needs
-
-number-requires-7 : tie.Need-number-requires-7
-number-requires-7 c κs = search needs
+accuracy-at-requires : tie.Need-accuracy-at-requires
+accuracy-at-requires c κs = search needs
 
 truth-at-requires-2 : tie.Need-truth-at-requires-2
 truth-at-requires-2 c κs = search needs
@@ -50,7 +50,7 @@ returns c =
     let p8 = p7 .before in
     let p9 = p8 .before in
     let p10 = p9 .before in
-    rw (p10 .position-at .ensures, p9 .number .ensures, p8 .number2 .ensures, p7 .number3 .ensures, p6 .truth-at .ensures, p5 .number4 .ensures, p4 .number5 .ensures, p3 .number6 .ensures) (rw (p2 .number7 .ensures, p1 .truth-at2 .ensures, p0 .truth-at3 .ensures))
+    rw (p10 .position-at .ensures, p9 .number .ensures, p8 .number2 .ensures, p7 .number3 .ensures, p6 .truth-at .ensures, p5 .number-by .ensures, p4 .number4 .ensures, p3 .number5 .ensures) (rw (p2 .accuracy-at .ensures, p1 .truth-at2 .ensures, p0 .truth-at3 .ensures))
 
 pub fix-at-spec : {M : Type 1} → statement M
 fix-at-spec =
@@ -61,10 +61,10 @@ fix-at-spec =
     number-requires-2
     number-requires-3
     truth-at-requires
+    number-by-requires
     number-requires-4
     number-requires-5
-    number-requires-6
-    number-requires-7
+    accuracy-at-requires
     truth-at-requires-2
     truth-at-requires-3
     returns)

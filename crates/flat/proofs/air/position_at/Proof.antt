@@ -6,26 +6,26 @@ use Rattle.flat.proofs.air.position_at.Tie as tie
 truth-at-requires : tie.Need-truth-at-requires
 truth-at-requires c κs = search needs
 
+number-by-requires : tie.Need-number-by-requires
+number-by-requires c κs = search needs
+
 number-requires : tie.Need-number-requires
 number-requires c κs = search needs
 
 number-requires-2 : tie.Need-number-requires-2
 number-requires-2 c κs = search needs
 
-number-requires-3 : tie.Need-number-requires-3
-number-requires-3 c κs = search needs
-
 truth-at-requires-2 : tie.Need-truth-at-requires-2
 truth-at-requires-2 c κs = search needs
 
+number-by-requires-2 : tie.Need-number-by-requires-2
+number-by-requires-2 c κs = search needs
+
+number-requires-3 : tie.Need-number-requires-3
+number-requires-3 c κs = search needs
+
 number-requires-4 : tie.Need-number-requires-4
 number-requires-4 c κs = search needs
-
-number-requires-5 : tie.Need-number-requires-5
-number-requires-5 c κs = search needs
-
-number-requires-6 : tie.Need-number-requires-6
-number-requires-6 c κs = search needs
 
 signed-at-requires : tie.Need-signed-at-requires
 signed-at-requires c κs = search needs
@@ -42,19 +42,19 @@ returns c =
     let p6 = p5 .before in
     let p7 = p6 .before in
     let p8 = p7 .before in
-    rw (p8 .truth-at .ensures, p7 .number .ensures, p6 .number2 .ensures, p5 .number3 .ensures, p4 .truth-at2 .ensures, p3 .number4 .ensures, p2 .number5 .ensures, p1 .number6 .ensures) (rw (p0 .signed-at .ensures))
+    rw (p8 .truth-at .ensures, p7 .number-by .ensures, p6 .number .ensures, p5 .number2 .ensures, p4 .truth-at2 .ensures, p3 .number-by2 .ensures, p2 .number3 .ensures, p1 .number4 .ensures) (rw (p0 .signed-at .ensures))
 
 pub position-at-spec : {M : Type 1} → statement M
 position-at-spec =
     tie.close
     (tie.spec
     truth-at-requires
+    number-by-requires
     number-requires
     number-requires-2
-    number-requires-3
     truth-at-requires-2
+    number-by-requires-2
+    number-requires-3
     number-requires-4
-    number-requires-5
-    number-requires-6
     signed-at-requires
     returns)

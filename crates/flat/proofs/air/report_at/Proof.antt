@@ -6,11 +6,11 @@ use Rattle.flat.proofs.air.report_at.Tie as tie
 fix-at-requires : tie.Need-fix-at-requires
 fix-at-requires c κs = search needs
 
+number-by-requires : tie.Need-number-by-requires
+number-by-requires c κs = search needs
+
 number-requires : tie.Need-number-requires
 number-requires c κs = search needs
-
-number-requires-2 : tie.Need-number-requires-2
-number-requires-2 c κs = search needs
 
 returns : tie.Need-returns
 unfolding reportAt
@@ -18,7 +18,7 @@ returns c =
     let p0 = c in
     let p1 = p0 .before in
     let p2 = p1 .before in
-    rw (p2 .fix-at .ensures, p1 .number .ensures, p0 .number2 .ensures)
+    rw (p2 .fix-at .ensures, p1 .number-by .ensures, p0 .number .ensures)
 
 pub report-at-spec : {M : Type 1} → statement M
-report-at-spec = tie.close (tie.spec fix-at-requires number-requires number-requires-2 returns)
+report-at-spec = tie.close (tie.spec fix-at-requires number-by-requires number-requires returns)

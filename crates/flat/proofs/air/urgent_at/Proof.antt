@@ -9,11 +9,11 @@ truth-at-requires c κs = search needs
 fix-at-requires : tie.Need-fix-at-requires
 fix-at-requires c κs = search needs
 
+number-by-requires : tie.Need-number-by-requires
+number-by-requires c κs = search needs
+
 number-requires : tie.Need-number-requires
 number-requires c κs = search needs
-
-number-requires-2 : tie.Need-number-requires-2
-number-requires-2 c κs = search needs
 
 returns : tie.Need-returns
 unfolding urgentAt
@@ -22,9 +22,9 @@ returns c =
     let p1 = p0 .before in
     let p2 = p1 .before in
     let p3 = p2 .before in
-    rw (p3 .truth-at .ensures, p2 .fix-at .ensures, p1 .number .ensures, p0 .number2 .ensures)
+    rw (p3 .truth-at .ensures, p2 .fix-at .ensures, p1 .number-by .ensures, p0 .number .ensures)
 
 pub urgent-at-spec : {M : Type 1} → statement M
 urgent-at-spec =
     tie.close
-    (tie.spec truth-at-requires fix-at-requires number-requires number-requires-2 returns)
+    (tie.spec truth-at-requires fix-at-requires number-by-requires number-requires returns)
