@@ -1,0 +1,338 @@
+/* adsc.h: the ground side of ADS (ICAO Doc 9705) for a host in C: the contracts of one air-ground link, its timers, and the PDUs of both sides.
+ * C99, and C++. The functions are in libadschost.a (rt staticlib adschost), which is for x86-64 and needs C's memory functions only.
+ *
+ * How a host works with it:
+ *
+ *   - It keeps a link record, ADSC_LINK_OCTETS octets, for each aircraft. adsc_open makes it; every further call reads, checks and changes it.
+ *   - It makes one call for each thing that happens: the user asks for something, something comes from below (the dialogue service), seconds pass.
+ *   - It does what the answer says, in order: requests to the dialogue service, indications to the user.
+ *
+ * Every function:
+ *
+ *   - gives 0 (ADSC_OK) or the number of a refusal, the first that applies. A refused call leaves every buffer as it was, and there is no answer.
+ *   - has the same result for the same arguments, and ends. It keeps no pointer and no state, allocates nothing and calls nothing back. So several
+ *     threads may use it at once, each on records of its own.
+ *   - takes octets and numbers as a pointer and a length, counted in elements. A length of 0 goes with any pointer that is not null. The buffers of one
+ *     call do not overlap.
+ *
+ * Only the seconds that the host reports by adsc_elapse pass. Report them before what came at their end: then a timer that was used up ends the link
+ * first, as it should.
+ */
+#ifndef ADSC_H
+#define ADSC_H
+
+#include <stddef.h>
+#include <stdint.h>
+
+#ifdef __cplusplus
+extern "C" {
+#endif
+
+/* ---- sizes */
+
+#define ADSC_LINK_OCTETS 77     /* of a link record, exactly */
+#define ADSC_ANSWER_OCTETS 22   /* of an answer; a longer buffer keeps what follows */
+#define ADSC_TIMERS 9           /* settings of adsc_open */
+#define ADSC_GROUND_NUMBERS 9   /* of a ground PDU */
+#define ADSC_AIR_NUMBERS 25     /* of an aircraft PDU, */
+#define ADSC_LIST_OCTETS 128    /* and of its list */
+#define ADSC_PDU_OCTETS 128     /* room for every PDU; an input over it is refused */
+#define ADSC_ACTIONS_MOST 8     /* in one answer */
+#define ADSC_SENT_MOST 8        /* octets of the PDU in one answer */
+#define ADSC_SECONDS_MOST 86400 /* of a setting and of one adsc_elapse */
+
+/* ---- refusals */
+
+enum adsc_refusal {
+    ADSC_OK = 0,
+    ADSC_NOT_PERMITTED = 1,     /* request not permitted */
+    ADSC_CANNOT_OCCUR = 2,      /* cannot occur: nothing like it is due from below in this state */
+    ADSC_BAD_SETTING = 3,       /* setting not 1..86,400, or not nine of them */
+    ADSC_ELAPSE_OVER = 4,       /* elapse over 86,400 */
+    ADSC_OUT_OF_RANGE = 5,      /* field to write out of range */
+    ADSC_NO_ROOM = 6,           /* output shorter than the PDU, the numbers, the answer or the record; judged last */
+    ADSC_CUT_SHORT = 7,         /* input ends inside a field */
+    ADSC_ABOVE_RANGE = 8,       /* sent value above its range or index unused */
+    ADSC_EXTENSION_SET = 9,     /* extension bit set */
+    ADSC_NOT_CARRIED = 10,      /* presence bit of an element not carried */
+    ADSC_DEFAULT_SENT = 11,     /* default interval sent */
+    ADSC_LIST_OVER = 12,        /* list over 16 */
+    ADSC_FILLING = 13,          /* filling not zero */
+    ADSC_OCTETS_AFTER = 14,     /* octets after the PDU */
+    ADSC_NO_ELEMENT = 15,       /* event contract with no element */
+    ADSC_INPUT_OVER = 16,       /* input over 128 octets */
+    ADSC_SCRIPT_LINE = 17,      /* script line not readable: of the bench's scripts, no function gives it */
+    ADSC_BAD_RECORD = 29        /* link record: running timers not those of the watch table, seconds left not 1..setting, a setting not 1..86,400, or LI in
+                                 * IDLE or END with a module not IDLE; numbers that are no states; not of 77 octets */
+};
+
+/* ---- timers, in watch order: the order of the settings, and the number in a timer's actions */
+
+enum adsc_timer {
+    ADSC_DC1 = 0,               /* a demand contract is asked for */
+    ADSC_DC2 = 1,               /* after a demand noncompliance: the report is due */
+    ADSC_EC1 = 2,               /* an event contract is asked for */
+    ADSC_EC2 = 3,               /* its cancel is asked for */
+    ADSC_PC1 = 4,               /* a periodic contract is asked for */
+    ADSC_PC2 = 5,               /* one is in force: the next report is due. Rests in an emergency */
+    ADSC_PC3 = 6,               /* its cancel is asked for */
+    ADSC_EM1 = 7,               /* an emergency: the next report is due */
+    ADSC_EM2 = 8                /* a change of its interval is asked for */
+};
+
+/* ---- ground PDUs as ADSC_GROUND_NUMBERS numbers. What a kind does not have reads as 0 and is not looked at when written. Of a shorter list the numbers
+ * that are not there count as 0, and what follows the last one is not looked at. Truth values are 0 and 1; written, another number is out of range (5). */
+
+enum adsc_ground_place {
+    ADSC_G_KIND = 0,
+    ADSC_G_WHAT = 1,            /* the contract to cancel, the elements of a contract, or the reason of an abort */
+    ADSC_G_SCALE = 2,           /* of the interval (periodic contract, modify emergency): ADSC_SECONDS or ADSC_MINUTES */
+    ADSC_G_INTERVAL = 3,        /* 1..59 seconds, 1..120 minutes. The default of a periodic contract is given too, as 5 minutes */
+    ADSC_G_ADDRESS = 4,         /* moduli of a periodic contract, 1..255, each where its element is set */
+    ADSC_G_PROFILE = 5,
+    ADSC_G_GROUND_VECTOR = 6,
+    ADSC_G_AIR_VECTOR = 7,
+    ADSC_G_WEATHER = 8
+};
+
+enum adsc_ground_kind {
+    ADSC_CANCEL_ALL = 0,
+    ADSC_CANCEL_CONTRACT = 1,
+    ADSC_CANCEL_EMERGENCY_ACK = 2,  /* the box sends it itself: as a request it is 1 */
+    ADSC_DEMAND_CONTRACT = 3,
+    ADSC_EVENT_CONTRACT = 4,
+    ADSC_MODIFY_EMERGENCY = 5,
+    ADSC_PERIODIC_CONTRACT = 6,
+    ADSC_GROUND_ABORT = 7           /* the same */
+};
+
+enum adsc_contract { ADSC_CANCEL_EVENT = 0, ADSC_CANCEL_PERIODIC = 1 };  /* ADSC_G_WHAT of a cancel-contract */
+enum adsc_scale { ADSC_SECONDS = 0, ADSC_MINUTES = 1 };
+
+/* Elements are presence bits. Of demand and periodic contracts, and of reports (which carry the address alone): */
+enum adsc_element {
+    ADSC_HAS_ADDRESS = 64,
+    ADSC_HAS_PROFILE = 32,
+    ADSC_HAS_GROUND_VECTOR = 16,
+    ADSC_HAS_AIR_VECTOR = 8,
+    ADSC_HAS_WEATHER = 4,
+    ADSC_HAS_SHORT_TERM_INTENT = 2, /* not carried: 10 */
+    ADSC_HAS_EXTENDED_PROFILE = 1   /* not carried: 10 */
+};
+
+/* of emergency reports, */
+enum adsc_urgent_element {
+    ADSC_URGENT_HAS_ADDRESS = 2,
+    ADSC_URGENT_HAS_GROUND_VECTOR = 1   /* not carried: 10 */
+};
+
+/* and of event contracts, where the other nine of eleven bits are not carried: */
+enum adsc_event_element { ADSC_ON_WAYPOINT_CHANGE = 128, ADSC_ON_MERIT_CHANGE = 4 };
+
+/* ---- aircraft PDUs as ADSC_AIR_NUMBERS numbers, under the same rules, and the octets of a list */
+
+enum adsc_air_place {
+    ADSC_A_KIND = 0,
+    ADSC_A_WHAT = 1,            /* report: whether a positive ack goes with it. Acks: the request type. Noncompliance: of which contract. Abort: the reason */
+    ADSC_A_DETAIL = 2,          /* event report: the event type, 0..11. Negative ack: the reason */
+    ADSC_A_COUNT = 3,           /* entries of the list, 0..16 */
+    ADSC_A_ELEMENTS = 4,
+    ADSC_A_SOUTH = 5,           /* 1: the latitude is below zero. 0 degrees have both signs */
+    ADSC_A_LATITUDE = 6,        /* degrees, 0..90, */
+    ADSC_A_LATITUDE_MINUTES = 7,
+    ADSC_A_LATITUDE_TENTHS = 8, /* tenths of a second, 0..599 */
+    ADSC_A_WEST = 9,
+    ADSC_A_LONGITUDE = 10,      /* 0..180, the rest alike */
+    ADSC_A_LONGITUDE_MINUTES = 11,
+    ADSC_A_LONGITUDE_TENTHS = 12,
+    ADSC_A_LEVEL = 13,          /* -75..10000 in two's complement: (int32_t) gives it its sign */
+    ADSC_A_YEAR = 14,           /* 1996..2095 */
+    ADSC_A_MONTH = 15,
+    ADSC_A_DAY = 16,
+    ADSC_A_HAS_SECONDS = 17,
+    ADSC_A_HOURS = 18,
+    ADSC_A_MINUTES = 19,
+    ADSC_A_SECONDS = 20,
+    ADSC_A_ACCURACY = 21,       /* 0..7 */
+    ADSC_A_UNITS = 22,          /* whether more than one navigational unit works, */
+    ADSC_A_AVOIDANCE = 23,      /* and whether collision avoidance does */
+    ADSC_A_ADDRESS = 24         /* 24 bits, where its element is set */
+};
+
+enum adsc_air_kind {
+    ADSC_CANCEL_EMERGENCY = 0,
+    ADSC_DEMAND_REPORT = 1,
+    ADSC_EMERGENCY_REPORT = 2,
+    ADSC_EVENT_REPORT = 3,
+    ADSC_NEGATIVE_ACK = 4,      /* with ADSC_CAPACITY_EXCEEDED the list holds names, eight octets of 0..127 each */
+    ADSC_NONCOMPLIANCE = 5,     /* the list holds an octet for each element that is not met */
+    ADSC_PERIODIC_REPORT = 6,
+    ADSC_POSITIVE_ACK = 7,
+    ADSC_AIR_ABORT = 8
+};
+
+enum adsc_request_type {
+    ADSC_OF_EVENT = 0,
+    ADSC_OF_PERIODIC = 1,
+    ADSC_OF_DEMAND = 2,
+    ADSC_OF_CANCEL_EVENT = 3,
+    ADSC_OF_CANCEL_PERIODIC = 4,
+    ADSC_OF_MODIFY_EMERGENCY = 5,
+    ADSC_OF_CANCEL_ALL = 6,
+    ADSC_OF_END_FORWARD = 7
+};
+
+enum adsc_negative_reason {
+    ADSC_SERVICE_UNAVAILABLE = 0,
+    ADSC_RATE_NOT_MET = 1,
+    ADSC_CAPACITY_EXCEEDED = 2,
+    ADSC_REASON_UNDEFINED = 3
+};
+
+enum adsc_unmet {
+    ADSC_UNMET_DEMAND = 0,      /* entries are report types, 0..6 in the order of enum adsc_element */
+    ADSC_UNMET_EVENT = 1,       /* event types, 0..10 */
+    ADSC_UNMET_PERIODIC = 2     /* report types, and 7 for the interval */
+};
+
+/* of both sides' provider aborts and of an abort indication */
+enum adsc_abort_reason {
+    ADSC_PROVIDER_FAILURE = 0,
+    ADSC_SYSTEM_ERROR = 1,
+    ADSC_INVALID_PDU = 2,
+    ADSC_SEQUENCE_ERROR = 3,
+    ADSC_TIMER_EXPIRY = 4,
+    ADSC_NO_CONTACT = 5,
+    ADSC_UNDEFINED_ERROR = 6,
+    ADSC_END_NOT_ACCEPTED = 7
+};
+
+/* ---- the link record. It is plain octets, numbers in four with the most significant first: it may be stored, copied and sent to another machine. Every
+ * call checks it, so that a damaged one is refused (29) or is at least a link that the tables speak of. */
+
+enum adsc_link_place {
+    ADSC_LINK_SETTINGS = 0,     /* nine numbers in watch order */
+    ADSC_LINK_LEFT = 36,        /* the seconds each has left; 0 where it does not run */
+    ADSC_LINK_DC = 72,          /* the states, an octet each */
+    ADSC_LINK_EC = 73,
+    ADSC_LINK_PC = 74,
+    ADSC_LINK_EM = 75,
+    ADSC_LINK_LI = 76
+};
+
+enum adsc_dc_state { ADSC_DC_IDLE = 0, ADSC_DC_PENDING = 1, ADSC_DC_ACTIVE = 2 };
+enum adsc_ec_state { ADSC_EC_IDLE = 0, ADSC_EC_START_PENDING = 1, ADSC_EC_PENDING = 2, ADSC_EC_ACTIVE = 3, ADSC_EC_CANCEL = 4 };
+enum adsc_pc_state { ADSC_PC_IDLE = 0, ADSC_PC_START_PENDING = 1, ADSC_PC_PENDING = 2, ADSC_PC_ACTIVE = 3, ADSC_PC_CANCEL = 4 };
+enum adsc_em_state { ADSC_EM_IDLE = 0, ADSC_EM_ACTIVE = 1, ADSC_EM_MODIFY = 2 };
+enum adsc_li_state { ADSC_LI_IDLE = 0, ADSC_LI_START = 1, ADSC_LI_ACTIVE = 2, ADSC_LI_END = 3 };
+
+/* ---- the answer of an accepted call: what to do, in order. The readers below spare the host its layout. */
+
+enum adsc_action {
+    ADSC_START_REQUEST = 1,     /* D-START, with the PDU. The PDU of an answer goes with its first request; a second goes without data */
+    ADSC_DATA_REQUEST = 2,      /* D-DATA, with the PDU */
+    ADSC_END_REQUEST = 3,       /* D-END, with the PDU of a cancel-all, else without data */
+    ADSC_ABORT_REQUEST = 4,     /* D-ABORT, with a provider abort; a user abort without data */
+    ADSC_INDICATION = 5,        /* to the user: what this call brought, as an indication or a confirmation */
+    ADSC_ABORT_INDICATION = 6,  /* the link has ended; adsc_answer_reason says why */
+    ADSC_PEER_ABORT = 7,        /* the same, by the aircraft's user */
+    ADSC_LATE = 8,              /* this data came after the end request and was set aside unread */
+    ADSC_STOP_TIMER = 16,       /* plus the timer. For a display or a log: the record counts the seconds, and the host needs no timer of its own */
+    ADSC_START_TIMER = 32       /* plus the timer, which has its setting left */
+};
+
+enum adsc_answer_place { ADSC_ANSWER_REASON = 0, ADSC_ANSWER_ACTIONS = 4, ADSC_ANSWER_SENT = 13 };
+
+/* The reason of an abort indication; 0 where there is none. */
+static inline uint32_t adsc_answer_reason(const uint8_t *answer)
+{
+    const uint8_t *r = answer + ADSC_ANSWER_REASON;
+    return (uint32_t)r[0] << 24 | (uint32_t)r[1] << 16 | (uint32_t)r[2] << 8 | r[3];
+}
+
+/* How many actions there are, 0 to ADSC_ACTIONS_MOST, */
+static inline size_t adsc_answer_actions(const uint8_t *answer)
+{
+    return answer[ADSC_ANSWER_ACTIONS];
+}
+
+/* and one of them, counted from 0; 0 where there is none. */
+static inline uint8_t adsc_answer_action(const uint8_t *answer, size_t i)
+{
+    return i < adsc_answer_actions(answer) ? answer[ADSC_ANSWER_ACTIONS + 1 + i] : 0;
+}
+
+/* How many octets the PDU to send has, 0 (none goes) to ADSC_SENT_MOST, */
+static inline size_t adsc_answer_sent(const uint8_t *answer)
+{
+    return answer[ADSC_ANSWER_SENT];
+}
+
+/* and where they stand. */
+static inline const uint8_t *adsc_answer_sent_octets(const uint8_t *answer)
+{
+    return answer + ADSC_ANSWER_SENT + 1;
+}
+
+/* ---- a link */
+
+/* A new link record, everything IDLE, from nine settings in watch order. Refuses: 3, 6 (a record that is not of 77 octets). */
+uint8_t adsc_open(const uint32_t *settings, size_t settings_length, uint8_t *link, size_t link_length);
+
+/* Calls on a record. Each refuses 29 first, and 6 last: an answer of less than 22 octets; what stands between is said below. */
+
+/* The user asks: a ground PDU as numbers. The first contract is a start request. Refuses: 29, 1, then as adsc_write_ground 5, 10, 15, then 6. A kind
+ * or a contract to cancel that names nothing is no request: 1. */
+uint8_t adsc_request(uint8_t *link, size_t link_length, const uint32_t *numbers, size_t numbers_length, uint8_t *answer, size_t answer_length);
+
+/* The user ends the link at once. Refuses: 29, 1 (LI is IDLE), 6. */
+uint8_t adsc_user_abort(uint8_t *link, size_t link_length, uint8_t *answer, size_t answer_length);
+
+/* Seconds pass, 0 to ADSC_SECONDS_MOST in one call; where they use up a timer the link ends, abort 4. Refuses: 29, 4, 6. */
+uint8_t adsc_elapse(uint8_t *link, size_t link_length, uint32_t seconds, uint8_t *answer, size_t answer_length);
+
+/* From below. The octets are the user data, an aircraft PDU. One that does not read ends the link, abort 2, one that is not due now abort 3: these are
+ * answers and no refusals. Each refuses: 29, 2 (not due in LI's state), 6. */
+
+/* D-START confirmation, accepted. */
+uint8_t adsc_start_confirm(uint8_t *link, size_t link_length, const uint8_t *octets, size_t octets_length, uint8_t *answer, size_t answer_length);
+
+/* D-START confirmation, rejected: abort 5. */
+uint8_t adsc_start_rejected(uint8_t *link, size_t link_length, uint8_t *answer, size_t answer_length);
+
+/* D-DATA indication. */
+uint8_t adsc_data(uint8_t *link, size_t link_length, const uint8_t *octets, size_t octets_length, uint8_t *answer, size_t answer_length);
+
+/* D-END confirmation. */
+uint8_t adsc_end_confirm(uint8_t *link, size_t link_length, uint8_t *answer, size_t answer_length);
+
+/* D-ABORT indication, originator user. */
+uint8_t adsc_peer_abort(uint8_t *link, size_t link_length, uint8_t *answer, size_t answer_length);
+
+/* D-ABORT indication, originator provider. Octets that are no provider abort give reason 6. */
+uint8_t adsc_air_abort(uint8_t *link, size_t link_length, const uint8_t *octets, size_t octets_length, uint8_t *answer, size_t answer_length);
+
+/* D-P-ABORT indication: reason 0. */
+uint8_t adsc_down(uint8_t *link, size_t link_length, uint8_t *answer, size_t answer_length);
+
+/* ---- PDUs, without a link */
+
+/* An aircraft PDU as ADSC_AIR_NUMBERS numbers and ADSC_LIST_OCTETS octets of list, zeros where it has no entries; longer buffers keep what follows.
+ * Refuses: 16, then what the bits meet first of 7, 8, 9, 10, 12, then 13, 14, then 6. */
+uint8_t adsc_read_air(const uint8_t *octets, size_t octets_length, uint32_t *numbers, size_t numbers_length, uint8_t *list, size_t list_length);
+
+/* A ground PDU as ADSC_GROUND_NUMBERS numbers. Refuses: 16, then what the bits meet first of 7, 8, 9, 10, 11, 15, then 13, 14, then 6. */
+uint8_t adsc_read_ground(const uint8_t *octets, size_t octets_length, uint32_t *numbers, size_t numbers_length);
+
+/* Numbers as a PDU, at the front of out; octets past its end stay, and *written says how many it has. A list with fewer octets than entries has zeros
+ * for the others. Refuses: in the order of the fields 5, 10, 12, then 6. A kind or a scale that names nothing is 5. */
+uint8_t adsc_write_air(const uint32_t *numbers, size_t numbers_length, const uint8_t *list, size_t list_length, uint8_t *out, size_t out_length, size_t *written);
+
+/* The same. Refuses: in the order of the fields 5, 10, 15, then 6. */
+uint8_t adsc_write_ground(const uint32_t *numbers, size_t numbers_length, uint8_t *out, size_t out_length, size_t *written);
+
+#ifdef __cplusplus
+}
+#endif
+
+#endif
