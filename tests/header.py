@@ -50,12 +50,12 @@ ARRAYS = [
         "ADSC_G_KIND": "6", "ADSC_G_WHAT": "a.elements", "ADSC_G_SCALE": "scale", "ADSC_G_INTERVAL": "times", "ADSC_G_ADDRESS": "a.address",
         "ADSC_G_PROFILE": "a.profile", "ADSC_G_GROUND_VECTOR": "a.ground", "ADSC_G_AIR_VECTOR": "a.air", "ADSC_G_WEATHER": "a.weather"}),
     ("flat/src/air.rt", "flat_fix", "ADSC_AIR_NUMBERS", {
-        "ADSC_A_KIND": "kind", "ADSC_A_WHAT": "bit(ack)", "ADSC_A_DETAIL": "event", "ADSC_A_ELEMENTS": "elements", "ADSC_A_SOUTH": "south",
-        "ADSC_A_LATITUDE": "la.degrees", "ADSC_A_LATITUDE_MINUTES": "la.minutes", "ADSC_A_LATITUDE_TENTHS": "la.tenths", "ADSC_A_WEST": "west",
-        "ADSC_A_LONGITUDE": "lo.degrees", "ADSC_A_LONGITUDE_MINUTES": "lo.minutes", "ADSC_A_LONGITUDE_TENTHS": "lo.tenths", "ADSC_A_LEVEL": "high",
-        "ADSC_A_YEAR": "t.year", "ADSC_A_MONTH": "t.month", "ADSC_A_DAY": "t.day", "ADSC_A_HAS_SECONDS": "exact", "ADSC_A_HOURS": "t.hours",
-        "ADSC_A_MINUTES": "t.minutes", "ADSC_A_SECONDS": "t.seconds", "ADSC_A_ACCURACY": "m.accuracy", "ADSC_A_UNITS": "units",
-        "ADSC_A_AVOIDANCE": "avoidance", "ADSC_A_ADDRESS": "address"}),
+        "ADSC_A_KIND": "kind", "ADSC_A_WHAT": "bit(ack)", "ADSC_A_DETAIL": "event", "ADSC_A_ELEMENTS": "elements", "ADSC_A_SOUTH": "bit(la.minus)",
+        "ADSC_A_LATITUDE": "la.degrees", "ADSC_A_LATITUDE_MINUTES": "la.minutes", "ADSC_A_LATITUDE_TENTHS": "la.tenths", "ADSC_A_WEST": "bit(lo.minus)",
+        "ADSC_A_LONGITUDE": "lo.degrees", "ADSC_A_LONGITUDE_MINUTES": "lo.minutes", "ADSC_A_LONGITUDE_TENTHS": "lo.tenths", "ADSC_A_LEVEL": "complement(level)",
+        "ADSC_A_YEAR": "t.year", "ADSC_A_MONTH": "t.month", "ADSC_A_DAY": "t.day", "ADSC_A_HAS_SECONDS": "bit(t.has_seconds)", "ADSC_A_HOURS": "t.hours",
+        "ADSC_A_MINUTES": "t.minutes", "ADSC_A_SECONDS": "t.seconds", "ADSC_A_ACCURACY": "m.accuracy", "ADSC_A_UNITS": "bit(m.units)",
+        "ADSC_A_AVOIDANCE": "bit(m.avoidance)", "ADSC_A_ADDRESS": "address"}),
     ("flat/src/air.rt", "few_of", "ADSC_AIR_NUMBERS", {"ADSC_A_KIND": "kind", "ADSC_A_WHAT": "a", "ADSC_A_DETAIL": "b", "ADSC_A_COUNT": "count"}),
     ("frame/src/said.rt", "said_octets", "ADSC_ANSWER_OCTETS", {
         "ADSC_ANSWER_REASON": "(w / 16777216) as u8", "ADSC_ANSWER_ACTIONS": "n", "ADSC_ANSWER_SENT": "m"}),
@@ -106,7 +106,7 @@ def numbers_due():
     """Each number of the header that is compared, with its value and where that is from."""
     due = []
     for path, names in CONSTANTS.items():
-        values = dict(re.findall(r"pub const (\w+): \w+ = (\d+);", crate(path)))
+        values = dict(re.findall(r"pub(?:\(crate\))? const (\w+): \w+ = (\d+);", crate(path)))
         due += [(name, int(values[const]), f"{path}, {const}") for name, const in names.items()]
     for path, (enum, names) in KINDS.items():
         values = {variant: int(n) for n, variant in re.findall(rf"(\d+) => {enum}::(\w+)", crate(path))}

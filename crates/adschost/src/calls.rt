@@ -1,12 +1,12 @@
 // The calls on a link, one function each.
-use crate::step::make;
-use crate::step::step;
 use flat::ground::ground_at;
+use frame::step::make;
+use frame::step::step;
 use ground::call::Call;
 ghost use mathlib.Core.List.{[]};
 ghost use Rattle.flat.specs.Grounds.{groundAt};
 ghost use Rattle.ground.specs.declared.call.Call.the-variants.{Request, UserAbort, Elapse, StartConfirm, StartRejected, Data, EndConfirm, PeerAbort, AirAbort, Down};
-ghost use Rattle.adschost.specs.Hosting.{hosted, Hosts, made, Makes};
+ghost use Rattle.frame.specs.Hosting.{hosted, Hosts, made, Makes};
 
 // A new link from nine settings in watch order.
 #[no_mangle]

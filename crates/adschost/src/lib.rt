@@ -2,4 +2,3 @@
 // leaves every lent buffer as it was.
 pub mod calls;
 pub mod messages;
-mod step;

@@ -66,37 +66,31 @@ fn flat_fix(kind: u32, ack: bool, event: u32, elements: u32, x: Fix, address: u3
     let level = p.level;
     let t = x.time;
     let m = x.merit;
-    let south = bit(la.minus);
-    let west = bit(lo.minus);
-    let high = complement(level);
-    let exact = bit(t.has_seconds);
-    let units = bit(m.units);
-    let avoidance = bit(m.avoidance);
     [
         kind,
         bit(ack),
         event,
         0,
         elements,
-        south,
+        bit(la.minus),
         la.degrees,
         la.minutes,
         la.tenths,
-        west,
+        bit(lo.minus),
         lo.degrees,
         lo.minutes,
         lo.tenths,
-        high,
+        complement(level),
         t.year,
         t.month,
         t.day,
-        exact,
+        bit(t.has_seconds),
         t.hours,
         t.minutes,
         t.seconds,
         m.accuracy,
-        units,
-        avoidance,
+        bit(m.units),
+        bit(m.avoidance),
         address,
     ]
 }

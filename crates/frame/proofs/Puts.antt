@@ -18,6 +18,9 @@ quad-is out at a b c d =
     let g : at + 3 ≡ suc (suc (suc at)) = omega arith in
     rw (e, f, g)
 
+pub quads-start : (ws out : List ℕ) (at : ℕ) → sets out (at + 0 * 4) (quads ws) ≡ sets out at (quads ws)
+quads-start ws out at = let e : at + 0 * 4 ≡ at = omega arith in rw e
+
 pub quads-step : (ws out : List ℕ) (at i : ℕ) → i < length ws
     → sets (sets out (at + i * 4) (quad (getD ws i 0))) (at + (i + 1) * 4) (quads (drop (i + 1) ws)) ≡ sets out (at + i * 4) (quads (drop i ws))
 quads-step ws out at i h =

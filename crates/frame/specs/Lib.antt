@@ -1,2 +1,3 @@
 pub mod Layout
 pub mod laws
+pub mod Hosting

@@ -1,4 +1,5 @@
-// The link record and what a call says as octets of a fixed layout, for a host that keeps them in its own memory.
-pub mod put;
-pub mod record;
-pub mod said;
+// The link record and what a call says as octets of a fixed layout, and the calls on them, for a host that keeps them in its own memory.
+mod put;
+mod record;
+mod said;
+pub mod step;

@@ -7,7 +7,7 @@ ghost use lib.ListN.{length, getD};
 ghost use lib.Seq.{sets};
 ghost use Rattle.frame.specs.Layout.{wordAt, words, four, linkOf, recordOctets};
 
-pub const RECORD: usize = 77;
+pub(crate) const RECORD: usize = 77;
 
 fn octet(s: &[u8], i: usize) -> u8
     ensures { λ r. ⌜ r ≡ getD (now (s .entry)) i 0 ⌝ }
@@ -59,7 +59,7 @@ fn words_at(s: &[u8], at: usize) -> [u32; 9]
 }
 
 // The record that the octets spell, good or not.
-pub fn load(s: &[u8]) -> Link
+pub(crate) fn load(s: &[u8]) -> Link
     ensures { λ r. ⌜ r ≡ linkOf (now (s .entry)) ⌝ }
 {
     let setting = words_at(s, 0);
@@ -85,7 +85,7 @@ fn put_states(out: &mut [u8], at: [u8; 4], li: u8)
     out[76] = li;
 }
 
-pub fn save(l: Link, out: &mut [u8])
+pub(crate) fn save(l: Link, out: &mut [u8])
     requires { ⌜ length (now out) ≡ 77 ⌝ }
     ensures { λ _. ⌜ now (out .exit) ≡ recordOctets l ⌝ }
 {

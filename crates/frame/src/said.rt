@@ -1,13 +1,11 @@
 // What a call says, in 22 octets. The refusal is not among them: a refused call writes nothing.
-use flat::copy::put_octets;
+use flat::copy::copy_octets;
 use ground::answer::Said;
 ghost use mathlib.Core.Path.{_≡_};
-ghost use Prim.Native.Nat.{_≤_};
-ghost use lib.ListN.{length};
 ghost use lib.Seq.{sets};
 ghost use Rattle.frame.specs.Layout.{most8, saidOctets};
 
-pub const SAID: usize = 22;
+pub(crate) const SAID: usize = 22;
 
 // No list has more than eight, so nothing is lost.
 fn count(n: usize) -> u8
@@ -52,10 +50,9 @@ fn said_octets(s: Said) -> [u8; 22]
     ]
 }
 
-pub fn put_said(s: Said, out: &mut [u8])
-    requires { ⌜ 22 ≤ length (now out) ⌝ }
+pub(crate) fn put_said(s: Said, out: &mut [u8])
     ensures { λ _. ⌜ now (out .exit) ≡ sets (now (out .entry)) 0 (saidOctets s) ⌝ }
 {
     let octets = said_octets(s);
-    put_octets(out, 0, &octets);
+    copy_octets(&octets, out);
 }

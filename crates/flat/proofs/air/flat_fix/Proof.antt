@@ -34,17 +34,9 @@ returns c =
     let p4 = p3 .before in
     let p5 = p4 .before in
     let p6 = p5 .before in
-    rw (p6 .bit .ensures, p5 .bit2 .ensures, p4 .complement .ensures, p3 .bit3 .ensures, p2 .bit4 .ensures, p1 .bit5 .ensures, p0 .bit6 .ensures)
+    rw (p6 .bit .ensures, p5 .bit2 .ensures, p4 .bit3 .ensures, p3 .complement .ensures, p2 .bit4 .ensures, p1 .bit5 .ensures, p0 .bit6 .ensures)
 
 pub flat-fix-spec : {M : Type 1} → statement M
 flat-fix-spec =
     tie.close
-    (tie.spec
-    bit-requires
-    bit-requires-2
-    complement-requires
-    bit-requires-3
-    bit-requires-4
-    bit-requires-5
-    bit-requires-6
-    returns)
+    (tie.spec bit-requires bit-requires-2 bit-requires-3 complement-requires bit-requires-4 bit-requires-5 bit-requires-6 returns)

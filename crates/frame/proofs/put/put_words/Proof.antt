@@ -4,8 +4,7 @@ use native.Mathlib.Omega.{arith}
 use lib.ListN.{length, getD, drop}
 use lib.Seq.{sets, length-sets}
 use Rattle.frame.specs.Layout.{quad, quads}
-use Rattle.flat.proofs.Puts.{put-start}
-use Rattle.frame.proofs.Puts.{quads-step, quads-end}
+use Rattle.frame.proofs.Puts.{quads-start, quads-step, quads-end}
 use borrow.Author.Needs.{needs}
 use Rattle.frame.proofs.put.put_words.Statement.{statement}
 use Rattle.frame.proofs.put.put_words.Tie as tie
@@ -20,7 +19,7 @@ size : (c : tie.Start Inv-loop μ-loop) → length (c .args .t3) ≡ 9
 size c = search needs
 
 loop-holds : tie.Need-loop-holds Inv-loop μ-loop
-loop-holds c = (omega arith, refl, put-start (quads (c .before .args .t3)) (c .before .args .out .now) (c .before .args .at))
+loop-holds c = (omega arith, refl, quads-start (c .before .args .t3) (c .before .args .out .now) (c .before .args .at))
 
 mul-put-word : tie.Need-mul-put-word Inv-loop μ-loop
 mul-put-word c = search needs

@@ -1,9 +1,9 @@
 use mathlib.Core.Path.{ap, _∙_}
 use Rattle.ground.specs.Fresh.{opened}
-use Rattle.adschost.proofs.Ways.{not-nine, not-made, no-place, is-made}
+use Rattle.frame.proofs.Ways.{not-nine, not-made, no-place, is-made}
 use borrow.Author.Needs.{needs}
-use Rattle.adschost.proofs.step.make.Statement.{statement}
-use Rattle.adschost.proofs.step.make.Tie as tie
+use Rattle.frame.proofs.step.make.Statement.{statement}
+use Rattle.frame.proofs.step.make.Tie as tie
 
 returns : tie.Need-returns
 returns c = not-nine (c .before .before .before .args .settings .now) (c .before .before .before .args .link .now) (c .if1 .taken)

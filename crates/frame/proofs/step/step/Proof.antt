@@ -2,10 +2,10 @@ use mathlib.Core.Path.{ap, _∙_}
 use Rattle.link.specs.declared.record.Link.{Link}
 use Rattle.ground.specs.Runs.{answered}
 use mathlib.Core.Path.{_∙_}
-use Rattle.adschost.proofs.Ways.{no-record, refused-so, no-room, accepted}
+use Rattle.frame.proofs.Ways.{no-record, refused-so, no-room, accepted}
 use borrow.Author.Needs.{needs}
-use Rattle.adschost.proofs.step.step.Statement.{statement}
-use Rattle.adschost.proofs.step.step.Tie as tie
+use Rattle.frame.proofs.step.step.Statement.{statement}
+use Rattle.frame.proofs.step.step.Tie as tie
 
 returns : tie.Need-returns
 returns c = no-record (c .before .before .before .before .args .call) (c .before .before .before .before .args .octets .now) (c .before .before .before .before .args .link .now) (c .before .before .before .before .args .out .now) (c .if1 .taken)

@@ -1,18 +1,18 @@
-// One call on the record that a host keeps.
+// One call on the record that a host keeps, and a new record.
+use crate::record::RECORD;
+use crate::record::load;
+use crate::record::save;
+use crate::said::SAID;
+use crate::said::put_said;
 use flat::numbers::number;
-use frame::record::RECORD;
-use frame::record::load;
-use frame::record::save;
-use frame::said::SAID;
-use frame::said::put_said;
 use ground::call::Call;
 use ground::call::answer;
 use ground::fresh::open;
 ghost use mathlib.Core.Path.{_≡_};
-ghost use Rattle.adschost.specs.Hosting.{hosted, Hosts, nineOf, made, Makes};
+ghost use Rattle.frame.specs.Hosting.{hosted, Hosts, nineOf, made, Makes};
 
 // The record is read and checked on each call, and written back only where the call is accepted and its answer has room.
-pub(crate) fn step(link: &mut [u8], call: Call, octets: &[u8], out: &mut [u8]) -> u8
+pub fn step(link: &mut [u8], call: Call, octets: &[u8], out: &mut [u8]) -> u8
     ensures { λ r. ⌜ Hosts (hosted call (now (octets .entry)) (now (link .entry)) (now (out .entry))) r (now (link .exit)) (now (out .exit)) ⌝ }
 {
     if link.len() != RECORD {
@@ -49,7 +49,7 @@ fn nine(f: &[u32]) -> [u32; 9]
     ]
 }
 
-pub(crate) fn make(settings: &[u32], link: &mut [u8]) -> u8
+pub fn make(settings: &[u32], link: &mut [u8]) -> u8
     ensures { λ r. ⌜ Makes (made (now (settings .entry)) (now (link .entry))) r (now (link .exit)) ⌝ }
 {
     if settings.len() != 9 {

@@ -1,7 +1,7 @@
-use Rattle.adschost.specs.Hosting.{nineOf}
+use Rattle.frame.specs.Hosting.{nineOf}
 use borrow.Author.Needs.{needs}
-use Rattle.adschost.proofs.step.nine.Statement.{statement}
-use Rattle.adschost.proofs.step.nine.Tie as tie
+use Rattle.frame.proofs.step.nine.Statement.{statement}
+use Rattle.frame.proofs.step.nine.Tie as tie
 
 number-requires : tie.Need-number-requires
 number-requires c κs = search needs
