@@ -1,10 +1,11 @@
-"""any_octets.py PROGRAM [ARGS..]: octets of every kind on standard input; the program has to end with one answer a line."""
+"""any_octets.py PROGRAM [ARGS..] NAME: octets of every kind on standard input; the program has to end with one answer a line, of NAME's form."""
 import random
 import re
 import subprocess
 import sys
 
-ANSWER = re.compile(rb"(ok( [0-9a-f]+)?|refused [0-9]+)\Z")
+ANSWERS = {"coder": rb"(ok( [0-9a-f]+)?|refused [0-9]+)\Z", "pdutext": rb"((air|ground): [ -~]+|refused [0-9]+ \([ -~]+\))\Z"}
+ANSWER = re.compile(ANSWERS[sys.argv[-1]])
 
 
 def lines_of(data):

@@ -1,12 +1,15 @@
 """Compares a program's reading and writing of PDUs with percoder.py, on fresh random inputs.
 
     compare_coder.py [--count N] [--seed S] [--shift NAME] -- PROGRAM [ARGS..]
+    compare_coder.py [--count N] [--seed S] --text [--reword TEXT] -- PROGRAM [ARGS..]
     compare_coder.py --list
 
 PROGRAM gets one line per PDU, `air HEX` or `ground HEX` (just `air` or `ground` when empty), and
-answers each with `ok HEX`, the octets written back from the value read, or `refused N`.
---shift moves the upper end of one range of percoder's table by one: the comparison must then
-fail. --list prints the ranges. Exit 0: no differences, and everything was exercised.
+answers each with `ok HEX`, the octets written back from the value read, or `refused N`; with
+--text, with the line for a person of plaintext.py, and no two PDUs with the same one.
+--shift moves the upper end of one range of percoder's table by one, --reword changes one text of
+plaintext's tables: the comparison must then fail. --list prints the ranges. Exit 0: no
+differences, and everything was exercised.
 """
 
 import argparse
@@ -16,6 +19,7 @@ import subprocess
 import sys
 
 import percoder
+import plaintext
 from percoder import DEFAULTS, NEEDS_ONE, NOT_CARRIED, RANGES, TABLE, pack, pieces, width
 
 REFUSALS = range(7, 18)
@@ -207,10 +211,12 @@ def main():
     if '--' in arguments:
         place = arguments.index('--')
         arguments, program = arguments[:place], arguments[place + 1:]
-    parser = argparse.ArgumentParser(usage='compare_coder.py [--count N] [--seed S] [--shift NAME] -- PROGRAM [ARGS..]')
+    parser = argparse.ArgumentParser(usage='compare_coder.py [--count N] [--seed S] [--shift NAME] [--text [--reword TEXT]] -- PROGRAM [ARGS..]')
     parser.add_argument('--count', type=int, default=20000)
     parser.add_argument('--seed', type=int, default=None)
     parser.add_argument('--shift', choices=RANGES, metavar='NAME')
+    parser.add_argument('--text', action='store_true')
+    parser.add_argument('--reword', metavar='TEXT')
     parser.add_argument('--list', action='store_true')
     options = parser.parse_args(arguments)
     if options.list:
@@ -222,15 +228,18 @@ def main():
     kinds = {(family, name) for family in ('air', 'ground') for name, _ in TABLE[family][2]}
     if options.shift:
         percoder.shift(options.shift)
+    if options.reword:
+        plaintext.reword(options.reword)
 
     rng = random.Random(seed)
     lines = [random_line(rng) for _ in range(options.count)]
-    expected, met = [], set()
+    coded, met = [], set()
     for made, line in lines:
         text, kind = percoder.answer(line)
         assert (made == 'unreadable') == (text == 'refused 17'), line
-        expected.append(text)
+        coded.append(text)
         met.add(kind)
+    expected = [plaintext.answer(line) for _, line in lines] if options.text else coded
     try:
         run = subprocess.run(program, input=b''.join(line + b'\n' for _, line in lines), stdout=subprocess.PIPE)
     except OSError as error:
@@ -245,7 +254,10 @@ def main():
     answers += ['(none)'] * (len(lines) - len(answers))
     wrong = [place for place in range(len(lines)) if answers[place] != expected[place]]
 
-    tally = collections.Counter(text.split()[0] if text.startswith('ok') else int(text.split()[1]) for text in expected)
+    pdus = {line: answer for (_, line), text, answer in zip(lines, coded, answers) if text.startswith('ok')}
+    if options.text and len(set(pdus.values())) < len(pdus):
+        faults.append('two PDUs have the same answer')
+    tally = collections.Counter(text.split()[0] if text.startswith('ok') else int(text.split()[1]) for text in coded)
     faults += [f'refusal {number} was never exercised' for number in REFUSALS if not tally[number]]
     faults += [f'no {family} {name} was accepted' for family, name in sorted(kinds - met)]
     print(f'seed {seed}' + (f', {options.shift} shifted' if options.shift else ''))

@@ -1,14 +1,11 @@
 use mathlib.Core.Path.{sym}
 use lib.Seq.{length-take-le}
 use borrow.Author.Needs.{needs}
-use Rattle.coder.proofs.say_line.Statement.{statement}
-use Rattle.coder.proofs.say_line.Tie as tie
+use Rattle.lines.proofs.line.say_line.Statement.{statement}
+use Rattle.lines.proofs.line.say_line.Tie as tie
 
 say-refused-requires : tie.Need-say-refused-requires
 say-refused-requires c κs = search needs
-
-same-length : tie.Need-same-length
-same-length c = search needs
 
 returns : tie.Need-returns
 returns c = search needs
@@ -31,9 +28,6 @@ part-say-tail-end c = search needs
 say-tail-requires : tie.Need-say-tail-requires
 say-tail-requires c κs = search needs
 
-same-length-2 : tie.Need-same-length-2
-same-length-2 c = search needs
-
 returns-2 : tie.Need-returns-2
 returns-2 c = search needs
 
@@ -42,7 +36,6 @@ say-line-spec =
     tie.close
     (tie.spec
     say-refused-requires
-    same-length
     returns
     word-end-requires
     slice-aggregate-say-tail
@@ -50,5 +43,4 @@ say-line-spec =
     part-say-tail-start
     part-say-tail-end
     say-tail-requires
-    same-length-2
     returns-2)

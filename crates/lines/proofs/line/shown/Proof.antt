@@ -1,8 +1,8 @@
 use mathlib.Core.Path.{sym}
 use native.Mathlib.Omega.{arith}
 use lib.Seq.{length-take-le}
-use Rattle.coder.proofs.shown.Statement.{statement}
-use Rattle.coder.proofs.shown.Tie as tie
+use Rattle.lines.proofs.line.shown.Statement.{statement}
+use Rattle.lines.proofs.line.shown.Tie as tie
 
 returns : tie.Need-returns
 returns c = (omega arith, sym (length-take-le _ _ (omega arith)))

@@ -1,0 +1,139 @@
+"""Writes the fixed vectors of pdutext: OUTDIR/stdin, one line per PDU, and OUTDIR/stdout, the text due to each.
+
+    plaintext_vectors.py OUTDIR
+
+Each kind of PDU, each name of each table, the ends of the ranges and what is easily shown wrong; then lines that are
+refused. A few texts stand here as literals, and plaintext.py must agree with them.
+"""
+
+import os
+import sys
+
+import plaintext
+from coder_vectors import LITERALS, P13, UNREADABLE
+from percoder import write
+
+WRITTEN = {
+    'air 00': 'air: cancel emergency',
+    'ground 74': 'ground: provider abort 4 (timer expiry)',
+    'air 4200': 'air: provider abort 4 (timer expiry)',
+    'ground 14': 'ground: cancel periodic contract',
+    'air 3880': 'air: positive ack to periodic contract',
+    'air 2130': 'air: negative ack to demand contract: undefined reason',
+    'ground 5840': 'ground: modify emergency contract every 5 minutes',
+    'ground 3000': 'ground: demand contract',
+    'ground 4080': 'ground: event contract, waypoint change',
+    'ground 640400': 'ground: periodic contract every 1 minute',
+    'ground 640420': 'refused 11 (default interval sent)',
+    'air': 'refused 7 (input ends inside a field)',
+    'air ' + P13: 'air: demand report, 00 00 00.0 N, 000 00 00.0 E, level 0 ft, 1996-01-01 00:00, '
+                  'accuracy 0 (complete loss), multiple units no, acas no',
+}
+
+
+def angle(sign, degrees, minutes, tenths):
+    return {'sign': sign, 'degrees': degrees, 'minutes': minutes, 'tenths': tenths}
+
+
+def report(latitude=angle(0, 47, 12, 345), longitude=angle(0, 8, 45, 67), level=3500, date=(2026, 11, 15),
+           clock=(12, 34, 56), merit=(3, 1, 0), address=None):
+    value = {
+        'position': {'latitude': latitude, 'longitude': longitude, 'level': level},
+        'time': {'date': dict(zip(('year', 'month', 'day'), date)), 'clock': dict(zip(('hours', 'minutes', 'seconds'), clock))},
+        'merit': dict(zip(('accuracy', 'first', 'second'), merit)),
+    }
+    return value if address is None else dict(value, address=address)
+
+
+def reports():
+    for kind, more in (('demand-report', {}), ('periodic-report', {}), ('emergency', {}), ('event-report', {'event-type': 3})):
+        for ack in ({}, {'ack': None}):
+            for address in (None, 0x4b1234):
+                yield kind, {**ack, **more, 'report': report(address=address)}
+    yield from (('event-report', {'event-type': number, 'report': report()}) for number in range(12))
+    for parts in (
+            [{'latitude': angle(*value)} for value in ((1, 0, 0, 0), (0, 0, 0, 0), (0, 90, 59, 599), (1, 90, 59, 599), (1, 9, 9, 9))] +
+            [{'longitude': angle(*value)} for value in ((1, 0, 0, 0), (0, 0, 0, 0), (0, 180, 59, 599), (1, 180, 59, 599), (1, 99, 0, 100))] +
+            [{'level': level} for level in (-75, -74, -1, 0, 1, 9999, 10000)] +
+            [{'date': date} for date in ((2026, 2, 31), (1996, 1, 1), (2095, 12, 31))] +
+            [{'clock': clock} for clock in ((0, 0), (0, 0, 0), (23, 59), (23, 59, 59), (9, 5, 7))] +
+            [{'merit': (accuracy, 0, 1)} for accuracy in range(8)] +
+            [{'merit': (7, first, second)} for first in (0, 1) for second in (0, 1)] +
+            [{'address': address} for address in (0, 10, 0x0a0b0c, 0xffffff)]):
+        yield 'periodic-report', {'report': report(**parts)}
+
+
+def named(*names):
+    return [tuple(name.encode('latin-1')) for name in names]
+
+
+def acks():
+    yield from (('positive-ack', number) for number in range(8))
+    for request in range(8):
+        yield from (('negative-ack', {'request': request, 'reason': (f'reason-{number}', None)}) for number in (0, 1, 3))
+        yield 'negative-ack', {'request': request, 'reason': ('reason-2', named('LSZHADSC', 'EDDFADSC', 'LFPGADSC'))}
+    every = [tuple(range(first, first + 8)) for first in range(0, 128, 8)]
+    for names in ([], named('LSZHADSC'), named('a,b c\\dn', '\\x41BCD\n', '        ', ',,,,,,,,'), every, named('AAAAAAAA') * 15):
+        yield 'negative-ack', {'request': 1, 'reason': ('reason-2', names)}
+    yield 'negative-ack', {'request': 5, 'reason': ('reason-2', named('\x7f' * 8) * 16)}    # the longest line
+
+
+def noncompliances():
+    for kind, top in (('demand', 6), ('event', 10), ('periodic', 7)):
+        for entries in ([], *([entry] for entry in range(top + 1)), list(range(top + 1)), [top, 0, 0, top], [top] * 16):
+            yield 'noncompliance', (kind, entries)
+
+
+INTERVALS = [('seconds', number) for number in (1, 2, 5, 59)] + [('minutes', number) for number in (1, 2, 5, 120)]
+MODULI = (1, 2, 3, 4, 10, 11, 12, 13, 14, 20, 21, 22, 23, 24, 100, 101, 102, 103, 110, 111, 112, 113, 121, 211, 212, 213, 221, 255)
+
+
+def grounds():
+    yield from (('cancel-all', None), ('cancel-contract', 0), ('cancel-contract', 1), ('cancel-emergency-ack', None))
+    elements = plaintext.ELEMENTS
+    yield from (('demand-contract', dict.fromkeys(some)) for some in ([], elements, elements[1::2], *([name] for name in elements)))
+    yield from (('event-contract', dict.fromkeys(some)) for some in
+                (['waypoint-change'], ['merit-change'], ['waypoint-change', 'merit-change']))
+    yield from (('modify-emergency', interval) for interval in INTERVALS)
+    yield from (('periodic-contract', {'interval': interval}) for interval in INTERVALS)
+    yield from (('periodic-contract', {'interval': ('minutes', 5), 'air-vector': number}) for number in MODULI)
+    yield from (('periodic-contract', {'interval': ('seconds', 30), name: 2}) for name in elements)
+    yield 'periodic-contract', {'interval': ('minutes', 5), **{name: place + 1 for place, name in enumerate(elements)}}
+    yield 'periodic-contract', {'interval': ('minutes', 120), **dict.fromkeys(elements, 255)}
+
+
+def values():
+    for make in (reports, acks, noncompliances):
+        yield from (('air', value) for value in make())
+    yield 'air', ('cancel-emergency', None)
+    yield from (('ground', value) for value in grounds())
+    yield from ((family, ('provider-abort', number)) for family in ('air', 'ground') for number in range(8))
+
+
+def main():
+    if len(sys.argv) != 2:
+        sys.exit('usage: plaintext_vectors.py OUTDIR')
+    lines = {line.encode(): None for line in WRITTEN}
+    lines.update((f'{family} {write(family, value).hex()}'.encode(), None) for family, value in values())
+    lines.update((line.encode(), None) for line, _ in LITERALS)
+    lines.update((line, None) for line in UNREADABLE)
+    lines = {line: plaintext.answer(line) for line in lines}
+    for line, text in WRITTEN.items():
+        assert lines[line.encode()] == text, (line, lines[line.encode()])
+    told = [text for text in lines.values() if not text.startswith('refused')]
+    assert len(told) == len(set(told)), 'two PDUs have one text'
+    for table, texts in plaintext.WORDS.items():
+        for place, text in enumerate(texts):                # each name of each table is met
+            texts[place] = text + ' or not'
+            assert not text or any(plaintext.answer(line) != due for line, due in lines.items()), (table, text)
+            texts[place] = text
+    os.makedirs(sys.argv[1], exist_ok=True)
+    with open(os.path.join(sys.argv[1], 'stdin'), 'wb') as file:
+        file.write(b''.join(line + b'\n' for line in lines))
+    with open(os.path.join(sys.argv[1], 'stdout'), 'w', newline='\n') as file:
+        file.write(''.join(text + '\n' for text in lines.values()))
+    print(f'{len(lines)} vectors')
+
+
+if __name__ == '__main__':
+    main()
