@@ -110,13 +110,15 @@ fn ending(often: u32, n: u32) -> u32 {
 // The element whose number is i, and its presence bit.
 fn put_element(out: &mut Page, at: usize, f: &[u32], bit: u32, i: u32) -> usize {
     let n = number(f, i);
-    let w = word(ELEMENT - 4, i);
     let o = often(number(f, 0), number(f, 1) & bit, n);
+    if o == 0 {
+        return at;
+    }
     put_form(
         out,
         at,
-        b"{|, &|, & every report|, & every #}{|th report|st report|nd report|rd report}",
-        &[o, w, w, w, n, ending(o, n)],
+        b", &{|| every report| every #}{|th report|st report|nd report|rd report}",
+        &[word(ELEMENT - 4, i), o, n, ending(o, n)],
     )
 }
 
