@@ -20,9 +20,11 @@ use Rattle.downlink.specs.declared.Air.the-variants.{CancelEmergency, Demand, E
 use Rattle.downlink.specs.declared.AirPdu.{AirPdu}
 use Rattle.flat.specs.Numbers.{truth, numberBy, bitOf, twos, signedOf, itemsOf}
 
+-- a PDU without a report: its kind, the numbers at 1 and 2, and how many entries its list has
 abbrev pub few : ℕ → ℕ → ℕ → ℕ → List ℕ
 few kind a b count = kind ∷ a ∷ b ∷ count ∷ 0 ∷ 0 ∷ 0 ∷ 0 ∷ 0 ∷ 0 ∷ 0 ∷ 0 ∷ 0 ∷ 0 ∷ 0 ∷ 0 ∷ 0 ∷ 0 ∷ 0 ∷ 0 ∷ 0 ∷ 0 ∷ 0 ∷ 0 ∷ 0 ∷ []
 
+-- a PDU with a report
 unfoldable pub flatFix : ℕ → Bool → ℕ → ℕ → Fix → ℕ → List ℕ
 flatFix kind ack event elements x address =
     let la = x .position .latitude in
@@ -31,15 +33,19 @@ flatFix kind ack event elements x address =
     let m = x .merit in
     kind ∷ bitOf ack ∷ event ∷ 0 ∷ elements ∷ bitOf (la .minus) ∷ la .degrees ∷ la .minutes ∷ la .tenths ∷ bitOf (lo .minus) ∷ lo .degrees ∷ lo .minutes ∷ lo .tenths ∷ twos (x .position .level .number) ∷ t .year ∷ t .month ∷ t .day ∷ bitOf (t .«has_seconds») ∷ t .hours ∷ t .minutes ∷ t .seconds ∷ m .accuracy ∷ bitOf (m .units) ∷ bitOf (m .avoidance) ∷ address ∷ []
 
+-- demand and periodic reports: "a presence bit for the positive ack (NULL), then the report"
 abbrev pub flatAcked : ℕ → AckedReport → List ℕ
 flatAcked kind a = flatFix kind (a .ack) 0 (a .report .elements) (a .report .fix) (a .report .address)
 
+-- emergencies, the same
 abbrev pub flatUrgent : AckedEmergency → List ℕ
 flatUrgent a = flatFix 2 (a .ack) 0 (a .report .elements) (a .report .fix) (a .report .address)
 
+-- "Index 3: that presence bit, event type* 0..11, report"
 abbrev pub flatEvent : EventReport → List ℕ
 flatEvent a = flatFix 3 (a .ack) (a .event) (a .report .elements) (a .report .fix) (a .report .address)
 
+-- by the kinds of 01's table; `count` is that of the list
 unfoldable pub flatAir : Air → ℕ → List ℕ
 flatAir CancelEmergency count = few 0 0 0 0
 flatAir (Demand a) count = flatAcked 1 a
@@ -55,6 +61,7 @@ flatAir (Abort n) count = few 8 n 0 0
 unfoldable pub accuracyAt : List ℕ → ℕ
 accuracyAt f = cond (ltb (getD f 22 0) 2) (numberBy f 23 21) 4294967295
 
+-- position, time and figure of merit
 unfoldable pub fixAt : List ℕ → Fix
 fixAt f =
     record {
@@ -77,22 +84,28 @@ fixAt f =
       merit = record { accuracy = accuracyAt f; units = truth (getD f 22 0); avoidance = truth (getD f 23 0) };
     }
 
+-- a report's presence bits, these three, and the address
 unfoldable pub reportAt : List ℕ → Report
 reportAt f = record { elements = numberBy f 1 4; fix = fixAt f; address = getD f 24 0 }
 
+-- and what stands before the report: whether a positive ack goes with it
 unfoldable pub ackedAt : List ℕ → AckedReport
 ackedAt f = record { ack = truth (getD f 1 0); report = reportAt f }
 
+-- the same of an emergency
 unfoldable pub urgentAt : List ℕ → AckedEmergency
 urgentAt f =
     record { ack = truth (getD f 1 0); report = record { elements = numberBy f 1 4; fix = fixAt f; address = getD f 24 0 } }
 
+-- and of an event report, with the event type
 unfoldable pub eventAt : List ℕ → EventReport
 eventAt f = record { ack = truth (getD f 1 0); event = getD f 2 0; report = reportAt f }
 
+-- request type and reason
 abbrev pub negativeAt : List ℕ → NegativeAck
 negativeAt f = record { request = getD f 1 0; reason = getD f 2 0 }
 
+-- by the index of 01's table
 abbrev pub kindBy : ℕ → List ℕ → Air
 kindBy zero f = CancelEmergency
 kindBy (suc zero) f = Demand (ackedAt f)
@@ -115,5 +128,6 @@ listedAt f l = record { count = getD f 3 0; items = itemsOf l }
 unfoldable pub listAt : List ℕ → List ℕ → Listed
 listAt f l = cond (eqb (getD f 0 0) 4) (listedAt f l) (cond (eqb (getD f 0 0) 5) (listedAt f l) noList)
 
+-- the whole PDU
 unfoldable pub airAt : List ℕ → List ℕ → AirPdu
 airAt f l = record { kind = kindAt f; list = listAt f l }

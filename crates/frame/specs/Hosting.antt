@@ -19,6 +19,7 @@ pub record Done : Type 0 where
   pub link : List ℕ
   pub answer : List ℕ
 
+-- a refusal: both buffers stay
 abbrev pub left : ℕ → List ℕ → List ℕ → Done
 left n s o = record { number = n; link = s; answer = o }
 
