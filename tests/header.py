@@ -20,7 +20,7 @@ LENT = re.compile(r"&(mut )?(\w+)")
 CONSTANTS = {
     "frame/src/record.rt": {"ADSC_LINK_OCTETS": "RECORD"},
     "frame/src/said.rt": {"ADSC_ANSWER_OCTETS": "SAID"},
-    "ground/src/answer.rt": {
+    "answers/src/answer.rt": {
         "ADSC_START_REQUEST": "START_REQUEST", "ADSC_DATA_REQUEST": "DATA_REQUEST", "ADSC_END_REQUEST": "END_REQUEST", "ADSC_ABORT_REQUEST": "ABORT_REQUEST",
         "ADSC_ABORT_INDICATION": "ABORT_IND", "ADSC_PEER_ABORT": "PEER_ABORT_IND", "ADSC_LATE": "LATE"},
     "link/src/actions.rt": {"ADSC_INDICATION": "IND", "ADSC_STOP_TIMER": "STOP", "ADSC_START_TIMER": "START"},

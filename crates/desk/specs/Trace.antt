@@ -6,7 +6,7 @@ use Prim.Native.Nat.{ℕ, _+_}
 use lib.Dec.{eqb, ltb}
 use lib.ListN.{length, take, replicate}
 use Rattle.text.specs.Text.{pick, decimal}
-use Rattle.ground.specs.Fresh.{fresh}
+use Rattle.answers.specs.Fresh.{fresh}
 use Rattle.script.specs.Words.{ascii}
 use Rattle.script.specs.Replies.{Reply, lineReply}
 use Rattle.script.specs.declared.reply.Bench.{Bench}

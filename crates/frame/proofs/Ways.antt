@@ -5,10 +5,10 @@ use mathlib.Core.List.{List}
 use lib.ListN.{length}
 use lib.Seq.{sets}
 use borrow.Author.Tests.{eq-eqb, ne-eqb, lt-ltb, le-ltb}
-use Rattle.ground.specs.declared.answer.Answer.{Answer}
-use Rattle.ground.specs.declared.fresh.Opened.{Opened}
+use Rattle.answers.specs.declared.answer.Answer.{Answer}
+use Rattle.answers.specs.declared.fresh.Opened.{Opened}
 use Rattle.ground.specs.declared.call.Call.{Call}
-use Rattle.ground.specs.Fresh.{opened}
+use Rattle.answers.specs.Fresh.{opened}
 use Rattle.ground.specs.Runs.{answered}
 use Rattle.frame.specs.Layout.{linkOf, recordOctets, saidOctets}
 use Rattle.frame.specs.Hosting.{hosted, told, Hosts, nineOf, made, opensInto, Makes}

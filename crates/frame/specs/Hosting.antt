@@ -6,10 +6,10 @@ use lib.Dec.{eqb, ltb}
 use lib.ListN.{length, getD, replicate}
 use lib.Seq.{sets}
 use Rattle.moves.specs.Tests.{pick}
-use Rattle.ground.specs.declared.answer.Answer.{Answer}
-use Rattle.ground.specs.declared.fresh.Opened.{Opened}
+use Rattle.answers.specs.declared.answer.Answer.{Answer}
+use Rattle.answers.specs.declared.fresh.Opened.{Opened}
 use Rattle.ground.specs.declared.call.Call.{Call}
-use Rattle.ground.specs.Fresh.{opened}
+use Rattle.answers.specs.Fresh.{opened}
 use Rattle.ground.specs.Runs.{answered, Made}
 use Rattle.frame.specs.Layout.{linkOf, recordOctets, saidOctets}
 

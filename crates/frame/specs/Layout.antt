@@ -5,7 +5,7 @@ use lib.Dec.{ltb}
 use lib.ListN.{getD}
 use Rattle.moves.specs.Tests.{pick}
 use Rattle.link.specs.declared.record.Link.{Link}
-use Rattle.ground.specs.declared.answer.Said.{Said}
+use Rattle.answers.specs.declared.answer.Said.{Said}
 
 -- a number below 2^32 in four octets
 abbrev pub quad : ℕ → List ℕ

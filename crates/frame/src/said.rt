@@ -1,6 +1,6 @@
 // What a call says, in 22 octets. The refusal is not among them: a refused call writes nothing.
+use answers::answer::Said;
 use flat::copy::copy_octets;
-use ground::answer::Said;
 ghost use mathlib.Core.Path.{_≡_};
 ghost use lib.Seq.{sets};
 ghost use Rattle.frame.specs.Layout.{most8, saidOctets};

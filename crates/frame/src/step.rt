@@ -4,10 +4,10 @@ use crate::record::load;
 use crate::record::save;
 use crate::said::SAID;
 use crate::said::put_said;
+use answers::fresh::open;
 use flat::numbers::number;
 use ground::call::Call;
 use ground::call::answer;
-use ground::fresh::open;
 ghost use mathlib.Core.Path.{_≡_};
 ghost use Rattle.frame.specs.Hosting.{hosted, Hosts, nineOf, made, Makes};
 

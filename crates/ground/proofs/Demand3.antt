@@ -23,14 +23,15 @@ use Rattle.link.specs.declared.record.Link.{Link}
 use Rattle.link.proofs.Laws.{below-fails}
 use Rattle.link.proofs.Fits.{event-no-clock}
 use Rattle.link.proofs.Keeps.{Shaped, Sound, good-states, good-timer, timer-parts, left-after, left-later, quiet-good, quiet-shaped, later-good, later-shaped, li-good, li-shaped, went-sound}
-use Rattle.ground.specs.Answers.{tells}
-use Rattle.ground.specs.Aborts.{stopsOf, aborted, closed}
-use Rattle.ground.specs.Fresh.{settingOk, fresh}
-use Rattle.ground.specs.Calls.{elapsed, lateData}
+use Rattle.answers.specs.Answers.{tells}
+use Rattle.answers.specs.Aborts.{stopsOf, aborted, closed}
+use Rattle.answers.specs.Fresh.{settingOk, fresh}
+use Rattle.answers.specs.Clock.{elapsed}
+use Rattle.arrivals.specs.Arrivals.{lateData}
 use Rattle.ground.specs.Runs.{answered, Made, reply, after, member, touches, seconds, total, Untouched, Watched}
-use Rattle.ground.specs.declared.answer.Answer.{Answer}
+use Rattle.answers.specs.declared.answer.Answer.{Answer}
 use Rattle.ground.specs.declared.call.Call.the-variants.{Elapse}
-use Rattle.ground.proofs.Laws.{fresh-good}
+use Rattle.answers.proofs.Laws.{fresh-good}
 use Rattle.ground.proofs.Every.{eq-T, T-eq, Kinds, every}
 use Rattle.ground.proofs.Stops.{closed-list, abort-list, member-left, member-right, member-one, stops-member}
 

@@ -21,12 +21,15 @@ use Rattle.link.specs.declared.record.Link.{Link}
 use Rattle.mail.specs.Events.{cancel-all, requestEvent, airEvent}
 use Rattle.mail.specs.Sent.{letter}
 use Rattle.mail.specs.declared.sent.Sent.{Sent}
-use Rattle.ground.specs.Answers.{ABORT-REQUEST, ABORT-IND, PEER-ABORT-IND, START-REQUEST, DATA-REQUEST, END-REQUEST, refusal, tells, quietly, allowed}
-use Rattle.ground.specs.Aborts.{aborted, endsWith, closed, closedWhen}
-use Rattle.ground.specs.Calls.{elapsed, asked, allCancelled, requested, userAborted, ackOf, ended, passed, taken, confirmed, lateData, arrived, rejected, failed, reasonOf, airAborted, peerAborted, endConfirmed}
+use Rattle.answers.specs.Answers.{ABORT-REQUEST, ABORT-IND, PEER-ABORT-IND, START-REQUEST, DATA-REQUEST, END-REQUEST, refusal, tells, quietly, allowed}
+use Rattle.answers.specs.Aborts.{aborted, endsWith, closed, closedWhen}
+use Rattle.answers.specs.Clock.{elapsed}
+use Rattle.user.specs.Requests.{asked, allCancelled, requested, userAborted}
+use Rattle.arrivals.specs.Arrivals.{ackOf, ended, passed, taken, confirmed, lateData, arrived}
+use Rattle.endings.specs.Endings.{rejected, failed, reasonOf, airAborted, peerAborted, endConfirmed}
 use Rattle.ground.specs.Runs.{answered, Made, reply, elapseOf, seconds}
-use Rattle.ground.specs.declared.answer.Answer.{Answer}
-use Rattle.ground.specs.declared.abort.Ending.{Ending}
+use Rattle.answers.specs.declared.answer.Answer.{Answer}
+use Rattle.answers.specs.declared.abort.Ending.{Ending}
 use Rattle.ground.specs.declared.call.Call.{Call}
 use Rattle.ground.specs.declared.call.Call.the-variants.{Request, UserAbort, Elapse, StartConfirm, StartRejected, Data, EndConfirm, PeerAbort, AirAbort, Down}
 

@@ -1,5 +1,3 @@
-pub mod Laws
-pub mod Readings
 pub mod Stops
 pub mod Every
 pub mod Demand3

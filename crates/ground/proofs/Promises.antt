@@ -16,15 +16,15 @@ use Rattle.link.specs.Record.{quiet, withLi}
 use Rattle.link.specs.Clock.{later, stopped}
 use Rattle.link.specs.Step.{actsOf, moved}
 use Rattle.link.specs.declared.record.Link.{Link}
-use Rattle.ground.specs.Answers.{refusal}
-use Rattle.ground.specs.Aborts.{aborted, closed}
-use Rattle.ground.specs.Fresh.{settingOk, fresh}
-use Rattle.ground.specs.Calls.{lateData}
+use Rattle.answers.specs.Answers.{refusal}
+use Rattle.answers.specs.Aborts.{aborted, closed}
+use Rattle.answers.specs.Fresh.{settingOk, fresh}
+use Rattle.arrivals.specs.Arrivals.{lateData}
 use Rattle.ground.specs.Runs.{answered, Made, reply, after, total, Untouched}
-use Rattle.ground.specs.declared.answer.Answer.{Answer}
+use Rattle.answers.specs.declared.answer.Answer.{Answer}
 use Rattle.ground.specs.declared.call.Call.{Call}
 use Rattle.ground.specs.declared.call.Call.the-variants.{Elapse}
-use Rattle.ground.proofs.Laws.{short}
+use Rattle.link.proofs.Laws.{short}
 use Rattle.ground.proofs.Every.{Kinds, every}
 use Rattle.moves.proofs.Laws.{no-true}
 use Rattle.ground.proofs.Demand3.{demand3-first, demand3-second}

@@ -19,9 +19,9 @@ use Rattle.link.specs.declared.record.Link.{Link}
 use Rattle.link.proofs.Fits.{states-test, all-states}
 use Rattle.link.proofs.Pushes.{push-acts}
 use Rattle.link.proofs.Keeps.{Sound, good-states, good-timer, timer-parts}
-use Rattle.ground.specs.Aborts.{stopsOf, aborted, closed}
+use Rattle.answers.specs.Aborts.{stopsOf, aborted, closed}
 use Rattle.ground.specs.Runs.{member}
-use Rattle.ground.specs.declared.abort.Ending.{Ending}
+use Rattle.answers.specs.declared.abort.Ending.{Ending}
 
 -- how many numbers below n pass a test
 count : ℕ → (ℕ → Bool) → ℕ

@@ -8,8 +8,11 @@ use lib.ListN.{getD}
 use Rattle.moves.specs.Tests.{either, pick}
 use Rattle.moves.specs.Watch.{runs}
 use Rattle.link.specs.declared.record.Link.{Link}
-use Rattle.ground.specs.Calls.{elapsed, requested, userAborted, confirmed, arrived, rejected, failed, airAborted, peerAborted, endConfirmed}
-use Rattle.ground.specs.declared.answer.Answer.{Answer}
+use Rattle.answers.specs.Clock.{elapsed}
+use Rattle.user.specs.Requests.{requested, userAborted}
+use Rattle.arrivals.specs.Arrivals.{confirmed, arrived}
+use Rattle.endings.specs.Endings.{rejected, failed, airAborted, peerAborted, endConfirmed}
+use Rattle.answers.specs.declared.answer.Answer.{Answer}
 use Rattle.ground.specs.declared.call.Call.{Call}
 use Rattle.ground.specs.declared.call.Call.the-variants.{Request, UserAbort, Elapse, StartConfirm, StartRejected, Data, EndConfirm, PeerAbort, AirAbort, Down}
 

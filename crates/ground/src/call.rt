@@ -1,17 +1,17 @@
 // Every call under one name.
-use crate::answer::Answer;
-use crate::below::air_abort;
-use crate::below::data;
-use crate::below::down;
-use crate::below::end_confirm;
-use crate::below::peer_abort;
-use crate::below::start_confirm;
-use crate::below::start_rejected;
-use crate::clock::elapse;
-use crate::user::request;
-use crate::user::user_abort;
+use answers::answer::Answer;
+use answers::clock::elapse;
+use arrivals::data;
+use arrivals::start_confirm;
+use endings::air_abort;
+use endings::down;
+use endings::end_confirm;
+use endings::peer_abort;
+use endings::start_rejected;
 use link::record::Link;
 use uplink::Ground;
+use user::request;
+use user::user_abort;
 ghost use mathlib.Core.Path.{_≡_};
 ghost use Rattle.ground.specs.Runs.{answered};
 

@@ -1,12 +1,12 @@
 // The clock call on the host's one link record, which is lent and changed in place. A thin crate: the record's fields can change below without touching it.
-use ground::answer::Answer;
-use ground::answer::Said;
+use answers::answer::Answer;
+use answers::answer::Said;
+use answers::clock::elapse;
 use ground::call::Call;
 use ground::call::answer;
-use ground::clock::elapse;
 use link::record::Link;
 ghost use mathlib.Core.Path.{_≡_};
-ghost use Rattle.ground.specs.Calls.{elapsed};
+ghost use Rattle.answers.specs.Clock.{elapsed};
 ghost use Rattle.ground.specs.Runs.{answered};
 
 // An elapse of n seconds. A refused one leaves the record as it was.

@@ -1,3 +1,4 @@
 pub mod Letters
 pub mod Reasons
 pub mod Own
+pub mod Readings

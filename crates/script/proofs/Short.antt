@@ -8,7 +8,7 @@ use native.Mathlib.Omega.{arith}
 use lib.Dec.{eqb, leb, ltb, lit≤}
 use lib.ListN.{length, take, length-append, length-take}
 use Rattle.text.specs.Text.{pick, hexText, decimalOnto, decimal}
-use Rattle.ground.specs.declared.answer.Said.{Said}
+use Rattle.answers.specs.declared.answer.Said.{Said}
 use Rattle.script.specs.Words.{ascii}
 use Rattle.script.specs.Says.{spaced, timerText, timerEntry, entryText, restOf, entriesOf, refusedText, saidText}
 

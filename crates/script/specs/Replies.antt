@@ -10,10 +10,10 @@ use Rattle.text.specs.Numbers.{nineOf}
 use Rattle.text.specs.Page.{Page, Writes}
 use Rattle.text.specs.declared.numbers.Nine.{Nine}
 use Rattle.link.specs.declared.record.Link.{Link}
-use Rattle.ground.specs.Fresh.{opened}
+use Rattle.answers.specs.Fresh.{opened}
 use Rattle.ground.specs.Runs.{answered}
-use Rattle.ground.specs.declared.answer.Answer.{Answer}
-use Rattle.ground.specs.declared.fresh.Opened.{Opened}
+use Rattle.answers.specs.declared.answer.Answer.{Answer}
+use Rattle.answers.specs.declared.fresh.Opened.{Opened}
 use Rattle.script.specs.Words.{ascii, wordOf}
 use Rattle.script.specs.Lines.{Asked, unread, asks, askedBy}
 use Rattle.script.specs.Says.{refusedText, saidText}

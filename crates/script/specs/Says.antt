@@ -5,8 +5,8 @@ use Prim.Native.Nat.{ℕ, _-_}
 use lib.Dec.{eqb, leb, ltb}
 use lib.ListN.{take}
 use Rattle.text.specs.Text.{pick, hexText, decimal}
-use Rattle.ground.specs.Answers.{START-REQUEST, DATA-REQUEST, END-REQUEST, ABORT-REQUEST, ABORT-IND, PEER-ABORT-IND, LATE}
-use Rattle.ground.specs.declared.answer.Said.{Said}
+use Rattle.answers.specs.Answers.{START-REQUEST, DATA-REQUEST, END-REQUEST, ABORT-REQUEST, ABORT-IND, PEER-ABORT-IND, LATE}
+use Rattle.answers.specs.declared.answer.Said.{Said}
 use Rattle.script.specs.Words.{ascii}
 
 -- a space and HEX, or nothing where there are no octets

@@ -5,7 +5,7 @@ use crate::said::put_refused;
 use crate::said::put_said;
 use crate::words::SET;
 use crate::words::word_of;
-use ground::fresh::open;
+use answers::fresh::open;
 use lent::answer_by;
 use link::record::Link;
 use text::least;

@@ -1,5 +1,5 @@
 // An answer as text: `ok` and its actions in order, or `refused N`.
-use ground::answer::*;
+use answers::answer::*;
 use link::actions::*;
 use text::least;
 use text::put_byte;

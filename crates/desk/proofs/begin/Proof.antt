@@ -1,6 +1,6 @@
 use mathlib.Core.Path.{refl}
 use Prim.Native.Nat.{_-_}
-use Rattle.ground.specs.Fresh.{fresh}
+use Rattle.answers.specs.Fresh.{fresh}
 use Rattle.desk.specs.Trace.{cold, firstText}
 use borrow.Author.Needs.{needs}
 use Rattle.desk.proofs.begin.Statement.{statement}

@@ -39,20 +39,20 @@ use denote.Triple.Spec.{Meets, tripleOf}
 use denote.Triple.Table.{entered, cited}
 use denote.Triple.Walked.{says, Stays, stay-ref, stay-none, walkOf, goes-none, goes-ref, Walks, ends-at, walked, walk-meets}
 use denote.Exit.{yes}
-use Rattle.ground.specs.Calls.{elapsed}
+use Rattle.answers.specs.Clock.{elapsed}
 use Rattle.link.specs.declared.record.Link.{Link}
-use Rattle.ground.specs.declared.answer.Said.{Said}
-use Rattle.ground.specs.declared.answer.Answer.{Answer}
+use Rattle.answers.specs.declared.answer.Said.{Said}
+use Rattle.answers.specs.declared.answer.Answer.{Answer}
 use Rattle.link.proofs.record.Link as T
 use Rattle.link.proofs.record.Link.Laws as T′
-use Rattle.ground.proofs.answer.Said as R
-use Rattle.ground.proofs.answer.Said.Laws as R′
-use Rattle.ground.proofs.answer.Answer as S
-use Rattle.ground.proofs.answer.Answer.Laws as S′
-use Rattle.ground.proofs.clock.elapse as g
-use Rattle.ground.proofs.clock.elapse.Symbol as g-def
-use Rattle.ground.proofs.clock.elapse.Symbol.{name as #ground·elapse}
-use Rattle.ground.proofs.clock.elapse.Met as g-thm
+use Rattle.answers.proofs.answer.Said as R
+use Rattle.answers.proofs.answer.Said.Laws as R′
+use Rattle.answers.proofs.answer.Answer as S
+use Rattle.answers.proofs.answer.Answer.Laws as S′
+use Rattle.answers.proofs.clock.elapse as g
+use Rattle.answers.proofs.clock.elapse.Symbol as g-def
+use Rattle.answers.proofs.clock.elapse.Symbol.{name as #ground·elapse}
+use Rattle.answers.proofs.clock.elapse.Met as g-thm
 use Rattle.lent.proofs.clock.Key.{name as #lent·clock}
 use Rattle.lent.proofs.clock as f
 use Rattle.lent.proofs.clock.Statement as stated
@@ -158,4 +158,4 @@ clock-spec 𝓤 H 𝓜 𝓖 𝓡 =
     entered 𝓤 H (tripleOf 𝓤 H (𝓖 .A) f.signature (f.spec 𝓤 H (𝓖 .A) (𝓜 .mem) (𝓡 .run)))
     (tables 𝓤 H 𝓜 𝓡 code.env .C) (tables 𝓤 H 𝓜 𝓡 code.env .Λ) #lent·clock code.function (code.unfolded 𝓤 H 𝓜 𝓡)
     (f-meets 𝓤 H (𝓖 .A) (givenOf 𝓤 H 𝓜 𝓖) (𝓜 .mem) (𝓡 .run) (tablesOf 𝓤 H 𝓜 (tables 𝓤 H 𝓜 𝓡 code.env))
-    (cited 𝓤 H (Callee 𝓤 H (𝓖 .A) (𝓜 .mem) (𝓡 .run)) 𝓜 𝓡 code.env #ground·elapse g-def.routine code.calls-ground·clock·elapse (g-thm.met 𝓤 H 𝓜 𝓖 𝓡)))
+    (cited 𝓤 H (Callee 𝓤 H (𝓖 .A) (𝓜 .mem) (𝓡 .run)) 𝓜 𝓡 code.env #ground·elapse g-def.routine code.calls-answers·clock·elapse (g-thm.met 𝓤 H 𝓜 𝓖 𝓡)))

@@ -40,16 +40,16 @@ use denote.Triple.Spec.{Meets, tripleOf}
 use denote.Triple.Table.{entered, cited}
 use denote.Triple.Walked.{says, Stays, stay-none, walkOf, goes-none, Walks, ends-at, walked, walk-meets}
 use denote.Exit.{yes}
-use Rattle.ground.specs.Calls.{elapsed}
+use Rattle.answers.specs.Clock.{elapsed}
 use Rattle.link.specs.declared.record.Link.{Link}
-use Rattle.ground.specs.declared.answer.Said.{Said}
-use Rattle.ground.specs.declared.answer.Answer.{Answer}
+use Rattle.answers.specs.declared.answer.Said.{Said}
+use Rattle.answers.specs.declared.answer.Answer.{Answer}
 use Rattle.link.proofs.record.Link as T
 use Rattle.link.proofs.record.Link.Laws as T′
-use Rattle.ground.proofs.answer.Said as R
-use Rattle.ground.proofs.answer.Said.Laws as R′
-use Rattle.ground.proofs.answer.Answer as S
-use Rattle.ground.proofs.answer.Answer.Laws as S′
+use Rattle.answers.proofs.answer.Said as R
+use Rattle.answers.proofs.answer.Said.Laws as R′
+use Rattle.answers.proofs.answer.Answer as S
+use Rattle.answers.proofs.answer.Answer.Laws as S′
 use Rattle.lent.proofs.clock as g
 use Rattle.lent.proofs.clock.Symbol as g-def
 use Rattle.lent.proofs.clock.Symbol.{name as #lent·clock}

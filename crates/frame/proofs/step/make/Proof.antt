@@ -1,5 +1,5 @@
 use mathlib.Core.Path.{ap, _∙_}
-use Rattle.ground.specs.Fresh.{opened}
+use Rattle.answers.specs.Fresh.{opened}
 use Rattle.frame.proofs.Ways.{not-nine, not-made, no-place, is-made}
 use borrow.Author.Needs.{needs}
 use Rattle.frame.proofs.step.make.Statement.{statement}

@@ -1,0 +1,36 @@
+-- The abort rule, and the other calls that stop everything.
+use mathlib.Core.Bool.{Bool}
+use mathlib.Core.List.{List, [], _++_}
+use Prim.Native.Nat.{ℕ, zero, suc, _+_}
+use lib.Dec.{leb}
+use lib.ListN.{getD}
+use Rattle.moves.specs.Acts.{pushed}
+use Rattle.link.specs.Record.{quiet, withLi}
+use Rattle.link.specs.Clock.{stopped}
+use Rattle.link.specs.Step.{one}
+use Rattle.link.specs.declared.record.Link.{Link}
+use Rattle.uplink.specs.declared.Ground as ground
+use Rattle.mail.specs.Sent.{sent, letter}
+use Rattle.answers.specs.Answers.{ABORT-REQUEST, ABORT-IND, tells, allowed}
+use Rattle.answers.specs.declared.answer.Answer.{Answer}
+use Rattle.answers.specs.declared.abort.Ending.{Ending}
+
+-- the stop entries of the running timers below t, in watch order. With a good link they are at most four, so none is dropped: `stops-whole`, proofs/Stops.antt
+unfoldable pub stopsOf : ℕ → List ℕ → List ℕ
+stopsOf zero left = []
+stopsOf (suc t) left = stopsOf t left ++ one (leb 1 (getD left t 0)) (16 + t)
+
+-- "Stop entries for all running timers, an expired one too, in watch order, abort request with ground provider abort n, abort indication n, all IDLE, LI too"
+unfoldable pub aborted : Link → ℕ → Answer
+aborted l n = tells (quiet l) n (pushed (pushed (stopped 9 (l .left)) ABORT-REQUEST) ABORT-IND) (letter (ground.the-variants.Abort n) .sent)
+
+-- the entry after the stops, the reason it shows, LI's state then, and the octets that go
+abbrev pub endsWith : ℕ → ℕ → ℕ → List ℕ → Ending
+endsWith entry reason li octets = record { entry = entry; reason = reason; li = li; sent = sent octets }
+
+-- "every abort below ends so as well", and cancel-all too: the stops, the one entry, all modules IDLE
+unfoldable pub closed : Link → Ending → Answer
+closed l e = tells (withLi (quiet l) (e .li)) (e .reason) (pushed (stopped 9 (l .left)) (e .entry)) (e .sent)
+
+unfoldable pub closedWhen : Link → Bool → ℕ → Ending → Answer
+closedWhen l may number e = allowed l may number (closed l e)

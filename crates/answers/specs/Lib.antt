@@ -1,0 +1,4 @@
+pub mod Answers
+pub mod Aborts
+pub mod Fresh
+pub mod Clock
