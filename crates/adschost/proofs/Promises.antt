@@ -6,7 +6,7 @@ use lib.ListN.{length, getD}
 use lib.Signed.{mag}
 use Rattle.per.specs.Pdu.{encode, got, readPdu}
 use Rattle.pen.specs.Writing.{Delivered}
-use Rattle.fields.specs.declared.list.Listed.{Listed}
+use Rattle.lists.specs.declared.Listed.{Listed}
 use Rattle.uplink.specs.declared.Ground.{Ground}
 use Rattle.uplink.specs.Table.{groundC}
 use Rattle.downlink.specs.declared.Air.{Air}

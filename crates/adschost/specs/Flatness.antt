@@ -9,7 +9,7 @@ use Rattle.moves.specs.Tests.{pick}
 use Rattle.pen.specs.declared.Written.{Written}
 use Rattle.pen.specs.declared.Written.the-variants as written
 use Rattle.pen.specs.Writing.{Delivered}
-use Rattle.fields.specs.declared.list.Listed.{Listed}
+use Rattle.lists.specs.declared.Listed.{Listed}
 use Rattle.pdu.specs.declared.AirAnswer.{AirAnswer}
 use Rattle.pdu.specs.declared.AirAnswer.the-variants as air
 use Rattle.pdu.specs.declared.AirReading.{AirReading}

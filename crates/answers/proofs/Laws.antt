@@ -12,7 +12,7 @@ use Rattle.moves.specs.Tests.{both, below}
 use Rattle.moves.specs.Watch.{runs}
 use Rattle.moves.proofs.Laws.{below-at}
 use Rattle.link.specs.Record.{good, timerGood, timerOk, statesOk, liOk, idle}
-use Rattle.link.proofs.Keeps.{quiet-test}
+use Rattle.link.proofs.Laws.{quiet-test}
 use Rattle.answers.specs.Fresh.{settingOk, fresh}
 
 both-true : (a : Bool) → both a true ≡ a

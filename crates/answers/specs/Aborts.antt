@@ -4,10 +4,9 @@ use mathlib.Core.List.{List, [], _++_}
 use Prim.Native.Nat.{ℕ, zero, suc, _+_}
 use lib.Dec.{leb}
 use lib.ListN.{getD}
-use Rattle.moves.specs.Acts.{pushed}
+use Rattle.moves.specs.Acts.{pushed, one}
 use Rattle.link.specs.Record.{quiet, withLi}
 use Rattle.link.specs.Clock.{stopped}
-use Rattle.link.specs.Step.{one}
 use Rattle.link.specs.declared.record.Link.{Link}
 use Rattle.uplink.specs.declared.Ground as ground
 use Rattle.mail.specs.Sent.{sent, letter}

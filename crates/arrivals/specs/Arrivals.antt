@@ -12,7 +12,7 @@ use Rattle.moves.specs.Moves.{moveOf}
 use Rattle.moves.specs.Acts.{acts}
 use Rattle.moves.specs.declared.decide.Move.{Move}
 use Rattle.link.specs.Record.{LI-START, LI-ACTIVE, LI-END, idle, withLi}
-use Rattle.link.specs.Step.{actsOf, moved}
+use Rattle.executor.specs.Step.{actsOf, moved}
 use Rattle.link.specs.declared.record.Link.{Link}
 use Rattle.mail.specs.Events.{airEvent}
 use Rattle.mail.specs.Sent.{sent, letter}

@@ -1,6 +1,7 @@
 // Data from the aircraft, and the answer to our start.
 use answers::abort::abort;
 use answers::answer::*;
+use executor::perform;
 use link::record::LI_ACTIVE;
 use link::record::LI_END;
 use link::record::LI_START;
@@ -8,7 +9,6 @@ use link::record::Link;
 use link::record::all_idle;
 use link::record::is_good;
 use link::record::with_li;
-use link::step::perform;
 use mail::events::air_event;
 use mail::sent::Sent;
 use mail::sent::nothing;

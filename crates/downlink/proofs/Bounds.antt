@@ -6,9 +6,10 @@ use Rattle.per.specs.Codec.{Within}
 use Rattle.per.specs.Formats.{flagField, numField}
 use Rattle.per.proofs.Within.{forms}
 use Rattle.per.proofs.Longest.{Most, up, a-field, a-pair, a-like, a-mark, a-null, a-when, an-alt, an-unused, a-choice, a-list}
-use Rattle.fields.specs.Lists.{listed, entryC, entriesC}
-use Rattle.fields.proofs.Bounds.{report-own, emergency-own, listed-own, report-most, emergency-most, names-most}
-use Rattle.downlink.specs.Parts.{ackedC, ackedEmergencyC, eventReportC, negativeC, entryTop, noncomplianceC}
+use Rattle.lists.specs.Lists.{listed, entryC, entriesC}
+use Rattle.lists.proofs.Bounds.{listed-own, names-most}
+use Rattle.fields.proofs.Bounds.{report-own, emergency-own, report-most, emergency-most}
+use Rattle.parts.specs.Parts.{ackedC, ackedEmergencyC, eventReportC, negativeC, entryTop, noncomplianceC}
 use Rattle.downlink.specs.Table.{airAlt, airC}
 
 -- ---- one form

@@ -3,13 +3,13 @@ use mathlib.Core.Path.{_≡_, refl}
 use mathlib.Core.Bool.{Bool, true, false, cond}
 use lib.Dec.{eqb}
 use Rattle.per.specs.Formats.{field, dep, via, absent, when, altCodec, choice}
-use Rattle.fields.specs.declared.list.Listed.{Listed}
+use Rattle.lists.specs.declared.Listed.{Listed}
 use Rattle.fields.specs.Table.{reportC, emergencyReportC}
-use Rattle.fields.specs.Lists.{entriesC, namesC, noList}
+use Rattle.lists.specs.Lists.{entriesC, namesC, noList}
 use Rattle.downlink.specs.declared.Air.{Air}
 use Rattle.downlink.specs.declared.Air.the-variants.{CancelEmergency, Demand, Emergency, Event, Negative, Noncompliance, Periodic, Positive, Abort}
 use Rattle.downlink.specs.declared.AirPdu.{AirPdu}
-use Rattle.downlink.specs.Parts.{ackedC, ackedEmergencyC, eventReportC, negativeC, entryTop, noncomplianceC}
+use Rattle.parts.specs.Parts.{ackedC, ackedEmergencyC, eventReportC, negativeC, entryTop, noncomplianceC}
 use Rattle.downlink.specs.Table.{bareAir, airAlt, airC}
 
 -- the PDU as it reads back

@@ -1,12 +1,12 @@
 -- What each kind of aircraft PDU holds; for every other kind, the empty value of its format.
 use Prim.Native.Nat.{ℕ}
-use Rattle.downlink.specs.declared.told.AckedReport.{AckedReport}
-use Rattle.downlink.specs.declared.told.AckedEmergency.{AckedEmergency}
-use Rattle.downlink.specs.declared.told.EventReport.{EventReport}
-use Rattle.downlink.specs.declared.acks.NegativeAck.{NegativeAck}
+use Rattle.parts.specs.declared.told.AckedReport.{AckedReport}
+use Rattle.parts.specs.declared.told.AckedEmergency.{AckedEmergency}
+use Rattle.parts.specs.declared.told.EventReport.{EventReport}
+use Rattle.parts.specs.declared.acks.NegativeAck.{NegativeAck}
 use Rattle.downlink.specs.declared.Air.{Air}
 use Rattle.downlink.specs.declared.Air.the-variants.{CancelEmergency, Demand, Emergency, Event, Negative, Noncompliance, Periodic, Positive, Abort}
-use Rattle.downlink.specs.Parts.{ackedC, ackedEmergencyC, eventReportC}
+use Rattle.parts.specs.Parts.{ackedC, ackedEmergencyC, eventReportC}
 
 abbrev pub reportOf : Air → AckedReport
 reportOf CancelEmergency = ackedC .none

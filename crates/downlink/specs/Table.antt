@@ -3,11 +3,11 @@ use Prim.Native.Nat.{ℕ, zero, suc}
 use mathlib.Core.Path.{refl}
 use Rattle.per.specs.Codec.{Codec}
 use Rattle.per.specs.Formats.{null, num, ext, choice, Alt, alt, unused}
-use Rattle.fields.specs.Lists.{noList}
+use Rattle.lists.specs.Lists.{noList}
 use Rattle.downlink.specs.declared.Air.{Air}
 use Rattle.downlink.specs.declared.Air.the-variants.{CancelEmergency, Demand, Emergency, Event, Negative, Noncompliance, Periodic, Positive, Abort}
 use Rattle.downlink.specs.declared.AirPdu.{AirPdu}
-use Rattle.downlink.specs.Parts.{ackedC, ackedEmergencyC, eventReportC, negativeC, noncomplianceC}
+use Rattle.parts.specs.Parts.{ackedC, ackedEmergencyC, eventReportC, negativeC, noncomplianceC}
 use Rattle.downlink.specs.Contents.{reportOf, emergencyOf, eventOf, negativeOf, numberOf}
 
 -- the index of a PDU

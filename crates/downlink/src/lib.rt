@@ -1,29 +1,27 @@
 // Aircraft PDUs: what the aircraft sends. Each file holds types with their readers and writers.
-pub mod acks;
-pub mod told;
 
-use crate::acks::NegativeAck;
-use crate::acks::read_negative;
-use crate::acks::read_noncompliance;
-use crate::acks::write_negative;
-use crate::acks::write_noncompliance;
-use crate::told::AckedEmergency;
-use crate::told::AckedReport;
-use crate::told::EventReport;
-use crate::told::read_acked;
-use crate::told::read_acked_emergency;
-use crate::told::read_event_report;
-use crate::told::write_acked;
-use crate::told::write_acked_emergency;
-use crate::told::write_event_report;
-use fields::list::Listed;
-use fields::list::no_list;
+use lists::Listed;
+use lists::no_list;
+use parts::acks::NegativeAck;
+use parts::acks::read_negative;
+use parts::acks::read_noncompliance;
+use parts::acks::write_negative;
+use parts::acks::write_noncompliance;
+use parts::told::AckedEmergency;
+use parts::told::AckedReport;
+use parts::told::EventReport;
+use parts::told::read_acked;
+use parts::told::read_acked_emergency;
+use parts::told::read_event_report;
+use parts::told::write_acked;
+use parts::told::write_acked_emergency;
+use parts::told::write_event_report;
 use pen::Pen;
 use per::cursor::Cursor;
 ghost use mathlib.Core.Path.{_≡_};
 ghost use Rattle.per.specs.Reading.{Reads};
 ghost use Rattle.pen.specs.Writing.{Writes};
-ghost use Rattle.fields.specs.Lists.{noList};
+ghost use Rattle.lists.specs.Lists.{noList};
 ghost use Rattle.downlink.specs.Table.{kindTag, airAlt, airC};
 
 // The numbers are those of 01: the kind of a noncompliance, the request that a positive ack answers, the reason of an abort.

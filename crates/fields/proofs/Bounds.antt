@@ -1,14 +1,12 @@
--- The parts of reports and the lists have the writer's own form alone, and are at most so long. Assumes nothing.
+-- The parts of reports have the writer's own form alone, and are at most so long. Assumes nothing.
 use Prim.Native.Nat.{ℕ, _+_, _-_}
-use mathlib.Core.Bool.{Bool, true, false}
 use lib.Dec.{lit≤}
 use Rattle.per.specs.Bits.{width, widthIn}
 use Rattle.per.specs.Codec.{Within}
 use Rattle.per.specs.Formats.{flagField, numField, signedField}
 use Rattle.per.proofs.Within.{forms}
-use Rattle.per.proofs.Longest.{Most, up, a-field, a-pair, a-like, a-mark, an-only, a-when, a-list}
+use Rattle.per.proofs.Longest.{Most, up, a-field, a-pair, a-like, a-mark, an-only, a-when}
 use Rattle.fields.specs.Table.{angleC, positionC, timeC, meritC, fixC, address, reportC, emergencyReportC}
-use Rattle.fields.specs.Lists.{listed, entryC, namesC}
 
 -- ---- one form
 angle-own : (n top : ℕ) → Within n (angleC top)
@@ -38,15 +36,6 @@ report-own n = search (forms, fix-own) depth 12
 pub emergency-own : (n : ℕ) → Within n emergencyReportC
 unfolding emergencyReportC
 emergency-own n = search (forms, fix-own) depth 12
-
-entry-own : (n : ℕ) (marked : Bool) (top : ℕ) → Within n (entryC marked top)
-unfolding entryC
-entry-own n true top = search forms
-entry-own n false top = search forms
-
-pub listed-own : (n m : ℕ) (marked : Bool) (top : ℕ) → Within n (listed m (entryC marked top))
-unfolding listed
-listed-own n m marked top = search (forms, entry-own)
 
 -- ---- how long
 position-most : Most 63 positionC
@@ -82,7 +71,3 @@ report-most = a-like _ _ _ _ (a-mark (lit≤ tt) (a-pair _ (an-only _ (a-field (
 pub emergency-most : Most 129 emergencyReportC
 unfolding emergencyReportC width widthIn
 emergency-most = up (lit≤ tt) (a-like _ _ _ _ (a-pair _ (an-only _ (a-field (numField 0 3))) (λ v. a-pair _ fix-most (λ f. address-most 2 v))))
-
-pub names-most : Most 904 namesC
-unfolding listed entryC width widthIn
-names-most = up (lit≤ tt) (a-like _ _ _ _ (a-list 8 (a-field (numField 0 127))))

@@ -1,14 +1,9 @@
 -- What reads back of a value: everything but what is absent, which reads as 0. Assumes nothing.
-use Prim.Native.Nat.{ℕ, zero, suc, _-_, _*_, _≤_}
+use Prim.Native.Nat.{ℕ}
 use mathlib.Core.Path.{_≡_, refl}
 use mathlib.Core.Bool.{Bool, true, false, cond}
-use mathlib.Core.List.{List, [], _∷_, _++_}
-use native.Mathlib.Omega.{arith}
 use lib.IntN.{pos, negsuc}
-use lib.ListN.{length, take, replicate}
-use lib.Seq.{length-take-le}
-use Rattle.per.specs.Formats.{field, dep, via, only, absent, when, has, vec, list16, num, signedField}
-use Rattle.fields.specs.declared.list.Listed.{Listed}
+use Rattle.per.specs.Formats.{field, dep, via, only, absent, when, has, num, signedField}
 use Rattle.fields.specs.declared.position.Position.{Position}
 use Rattle.fields.specs.declared.time.Time.{Time}
 use Rattle.fields.specs.declared.time.Merit.{Merit}
@@ -16,7 +11,6 @@ use Rattle.fields.specs.declared.report.Fix.{Fix}
 use Rattle.fields.specs.declared.report.Report.{Report}
 use Rattle.fields.specs.declared.report.EmergencyReport.{EmergencyReport}
 use Rattle.fields.specs.Table.{angleC, positionC, timeC, meritC, fixC, reportC, emergencyReportC}
-use Rattle.fields.specs.Lists.{listed, entryC}
 
 -- an optional number
 when-norm : (b : Bool) (lo hi n : ℕ) → when b 0 (num lo hi) .norm n ≡ cond b n 0
@@ -64,25 +58,6 @@ pub emergency-norm : (a : EmergencyReport)
     → emergencyReportC .norm a ≡ record { elements = a .elements; fix = fixRead (a .fix); address = cond (has 2 (a .elements)) (a .address) 0 }
 unfolding emergencyReportC via dep field only
 emergency-norm a = rw (fix-norm (a .fix), when-norm (has 2 (a .elements)) 0 16777215 (a .address))
-
--- entries past the count read as 0
-entry-norm : (marked : Bool) (top v : ℕ) → entryC marked top .norm v ≡ v
-unfolding entryC via dep field
-entry-norm true top v = refl
-entry-norm false top v = refl
-
-vec-norm : (marked : Bool) (top n : ℕ) (l : List ℕ) → length l ≡ n → vec (entryC marked top) n .norm l ≡ l
-unfolding vec via dep absent
-vec-norm marked top zero [] h = refl
-vec-norm marked top zero (x ∷ l) h = absurd (omega arith)
-vec-norm marked top (suc n) [] h = absurd (omega arith)
-vec-norm marked top (suc n) (x ∷ l) h = rw (entry-norm marked top x, vec-norm marked top n l (omega arith))
-
-pub listed-norm : (m : ℕ) (marked : Bool) (top : ℕ) (a : Listed) → a .count * m ≤ length (a .items)
-    → listed m (entryC marked top) .norm a
-    ≡ record { count = a .count; items = take (a .count * m) (a .items) ++ replicate (128 - length (take (a .count * m) (a .items))) 0 }
-unfolding listed list16 via dep field
-listed-norm m marked top a h = rw (vec-norm marked top (a .count * m) (take (a .count * m) (a .items)) (length-take-le (a .count * m) (a .items) h))
 
 -- ---- "A level of -75 to 10000 is sent as the level plus 75", exact at -75, 0 and 10000, both ways; -76 and 10001 are refused with 5
 pub levels : (signedField 75 10000 .from (record { number = negsuc 74 }) ≡ 0) × (signedField 75 10000 .from (record { number = pos 0 }) ≡ 75)

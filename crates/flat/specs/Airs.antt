@@ -7,14 +7,14 @@ use mathlib.Core.List.{List, [], _∷_}
 use Prim.Native.Nat.{ℕ, zero, suc}
 use lib.Dec.{eqb, ltb}
 use lib.ListN.{getD}
-use Rattle.fields.specs.Lists.{noList}
-use Rattle.fields.specs.declared.list.Listed.{Listed}
+use Rattle.lists.specs.Lists.{noList}
+use Rattle.lists.specs.declared.Listed.{Listed}
 use Rattle.fields.specs.declared.report.Fix.{Fix}
 use Rattle.fields.specs.declared.report.Report.{Report}
-use Rattle.downlink.specs.declared.acks.NegativeAck.{NegativeAck}
-use Rattle.downlink.specs.declared.told.AckedReport.{AckedReport}
-use Rattle.downlink.specs.declared.told.AckedEmergency.{AckedEmergency}
-use Rattle.downlink.specs.declared.told.EventReport.{EventReport}
+use Rattle.parts.specs.declared.acks.NegativeAck.{NegativeAck}
+use Rattle.parts.specs.declared.told.AckedReport.{AckedReport}
+use Rattle.parts.specs.declared.told.AckedEmergency.{AckedEmergency}
+use Rattle.parts.specs.declared.told.EventReport.{EventReport}
 use Rattle.downlink.specs.declared.Air.{Air}
 use Rattle.downlink.specs.declared.Air.the-variants.{CancelEmergency, Demand, Emergency, Event, Negative, Noncompliance, Periodic, Positive, Abort}
 use Rattle.downlink.specs.declared.AirPdu.{AirPdu}

@@ -10,7 +10,7 @@ use borrow.Author.Tests.{eq-eqb}
 use Rattle.moves.specs.Tests.{pick}
 use Rattle.moves.proofs.Laws.{no-true}
 use Rattle.link.specs.declared.record.Link.{Link}
-use Rattle.link.proofs.Keeps.{Shaped, Sound}
+use Rattle.ground.proofs.Keeps.{Shaped, Sound}
 use Rattle.answers.specs.declared.answer.Answer.{Answer}
 use Rattle.ground.specs.declared.call.Call.{Call}
 use Rattle.ground.specs.Runs.{answered, Made, reply, after}

@@ -12,17 +12,17 @@ use Rattle.moves.specs.Tests.{both, either, pick, below}
 use Rattle.moves.specs.Names.{EC, ACTIVE, EC1, EC2}
 use Rattle.moves.specs.Watch.{runs}
 use Rattle.moves.specs.Moves.{moveOf}
-use Rattle.moves.specs.Acts.{acts}
+use Rattle.moves.specs.Acts.{acts, one}
 use Rattle.moves.specs.declared.decide.Move.{Move}
 use Rattle.moves.specs.declared.acts.Acts.{Acts}
 use Rattle.moves.proofs.Laws.{both-left, both-right, below-at, no-true}
 use Rattle.link.specs.Record.{LI-IDLE, LI-END, good, timerGood, timerOk, statesOk, liOk, idle, quiet, withLi}
 use Rattle.link.specs.Clock.{due, notDue, later}
-use Rattle.link.specs.Step.{one, actsOf, moved}
+use Rattle.executor.specs.Step.{actsOf, moved}
 use Rattle.link.specs.declared.record.Link.{Link}
 use Rattle.link.proofs.Laws.{below-fails}
-use Rattle.link.proofs.Fits.{event-no-clock}
-use Rattle.link.proofs.Keeps.{Shaped, Sound, good-states, good-timer, timer-parts, left-after, left-later, quiet-good, quiet-shaped, later-good, later-shaped, li-good, li-shaped, went-sound}
+use Rattle.ground.proofs.Fits.{event-no-clock}
+use Rattle.ground.proofs.Keeps.{Shaped, Sound, good-states, good-timer, timer-parts, left-after, left-later, quiet-good, quiet-shaped, later-good, later-shaped, li-good, li-shaped, went-sound}
 use Rattle.answers.specs.Answers.{tells}
 use Rattle.answers.specs.Aborts.{stopsOf, aborted, closed}
 use Rattle.answers.specs.Fresh.{settingOk, fresh}

@@ -16,7 +16,7 @@ use Rattle.moves.specs.Moves.{moveOf}
 use Rattle.moves.specs.Acts.{acts}
 use Rattle.link.specs.Record.{LI-IDLE, LI-START, LI-ACTIVE, LI-END, good, idle, liOk, withLi}
 use Rattle.link.specs.Clock.{notDue, later}
-use Rattle.link.specs.Step.{actsOf, moved}
+use Rattle.executor.specs.Step.{actsOf, moved}
 use Rattle.link.specs.declared.record.Link.{Link}
 use Rattle.mail.specs.Events.{cancel-all, requestEvent, airEvent}
 use Rattle.mail.specs.Sent.{letter}

@@ -1,3 +1,5 @@
+pub mod Fits
+pub mod Keeps
 pub mod Stops
 pub mod Every
 pub mod Demand3

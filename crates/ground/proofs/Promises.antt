@@ -14,7 +14,7 @@ use Rattle.moves.specs.Acts.{acts, pushed}
 use Rattle.moves.specs.declared.acts.Acts.{Acts}
 use Rattle.link.specs.Record.{quiet, withLi}
 use Rattle.link.specs.Clock.{later, stopped}
-use Rattle.link.specs.Step.{actsOf, moved}
+use Rattle.executor.specs.Step.{actsOf, moved}
 use Rattle.link.specs.declared.record.Link.{Link}
 use Rattle.answers.specs.Answers.{refusal}
 use Rattle.answers.specs.Aborts.{aborted, closed}
@@ -24,7 +24,7 @@ use Rattle.ground.specs.Runs.{answered, Made, reply, after, total, Untou
 use Rattle.answers.specs.declared.answer.Answer.{Answer}
 use Rattle.ground.specs.declared.call.Call.{Call}
 use Rattle.ground.specs.declared.call.Call.the-variants.{Elapse}
-use Rattle.link.proofs.Laws.{short}
+use Rattle.executor.proofs.Few.{short}
 use Rattle.ground.proofs.Every.{Kinds, every}
 use Rattle.moves.proofs.Laws.{no-true}
 use Rattle.ground.proofs.Demand3.{demand3-first, demand3-second}

@@ -16,9 +16,9 @@ use Rattle.moves.proofs.Laws.{cases, no-true}
 use Rattle.link.specs.Record.{good, timerGood, timerOk}
 use Rattle.link.specs.Clock.{stopped}
 use Rattle.link.specs.declared.record.Link.{Link}
-use Rattle.link.proofs.Fits.{states-test, all-states}
-use Rattle.link.proofs.Pushes.{push-acts}
-use Rattle.link.proofs.Keeps.{Sound, good-states, good-timer, timer-parts}
+use Rattle.ground.proofs.Fits.{states-test, all-states}
+use Rattle.executor.proofs.Pushes.{push-acts}
+use Rattle.ground.proofs.Keeps.{Sound, good-states, good-timer, timer-parts}
 use Rattle.answers.specs.Aborts.{stopsOf, aborted, closed}
 use Rattle.ground.specs.Runs.{member}
 use Rattle.answers.specs.declared.abort.Ending.{Ending}

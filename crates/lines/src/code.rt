@@ -3,7 +3,7 @@ use crate::line::put_refused;
 use crate::line::shown;
 use downlink::Air;
 use downlink::AirPdu;
-use fields::list::Listed;
+use lists::Listed;
 use pen::Written;
 use plain::Page;
 use uplink::Ground;

@@ -1,8 +1,8 @@
 // A PDU in words for a person.
 use downlink::Air;
-use fields::list::Listed;
 use flat::air::flat_air;
 use flat::ground::flat_ground;
+use lists::Listed;
 use plain::Page;
 use uplink::Ground;
 

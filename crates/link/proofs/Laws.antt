@@ -1,18 +1,16 @@
 -- Laws of tests over the timers, and of a list that is worked through from its start. Assumes nothing.
 use mathlib.Core.Path.{_≡_, refl, subst, sym, ap}
 use mathlib.Core.List.{List, [], _∷_, _++_, map, append-nil}
-use mathlib.Core.Bool.{Bool, true, false}
-use Prim.Native.Nat.{ℕ, zero, suc, _+_, _<_, _≤_}
-use native.Mathlib.Omega.{arith}
-use native.Mathlib.Nat.{le-refl, not-suc-le-zero, le-of-suc-le-suc, eq-or-lt-of-le, le-of-eq}
+use mathlib.Core.Bool.{Bool, true, false, not}
+use Prim.Native.Nat.{ℕ, zero, suc, _+_, _<_}
+use native.Mathlib.Nat.{not-suc-le-zero, le-of-suc-le-suc, eq-or-lt-of-le, le-of-eq}
 use native.Mathlib.Numerals.{add-one}
 use lib.Seq.{take-all}
-use lib.Dec.{ltb}
-use lib.ListN.{length, getD, set, take, drop, drop-of-length-le, length-append}
+use lib.Dec.{T, eqb}
+use lib.ListN.{length, getD, set, take, drop, replicate, drop-of-length-le}
 use Rattle.moves.specs.Tests.{both, below}
-use Rattle.moves.specs.declared.decide.Move.{Move}
+use Rattle.moves.specs.Watch.{runs}
 use Rattle.moves.proofs.Laws.{cases, both-1}
-use Rattle.link.specs.Step.{one, actsOf}
 
 pub both-pass : (a b x : Bool) → a ≡ true → b ≡ true → x ≡ both a (both b x)
 both-pass a b x p q = rw (p, q)
@@ -50,16 +48,7 @@ module _ (f : ℕ → ℕ) where
   pub mid-all : (l : List ℕ) (n : ℕ) → length l ≡ n → mid l n ≡ map f l
   mid-all l n e = rw (take-all n l (le-of-eq e), drop-of-length-le l (le-of-eq e)) (append-nil (map f l))
 
--- a move does at most four things
-pub short : (m : Move) (send : ℕ) → length (actsOf m send) ≤ 4
-unfolding actsOf
-short m send =
-    let a : List ℕ = one (ltb (m .stop) 9) (16 + m .stop) in
-    let b : List ℕ = one (m .ind) 5 in
-    let d : List ℕ = one (m .send) send in
-    let e : List ℕ = one (ltb (m .start) 9) (32 + m .start) in
-    omega (arith, length-append (a ++ b ++ d) e, length-append (a ++ b) d, length-append a b, most (ltb (m .stop) 9) (16 + m .stop), most (m .ind) 5, most (m .send) send, most (ltb (m .start) 9) (32 + m .start))
-  where
-    most : (y : Bool) (x : ℕ) → length (one y x) ≤ 1
-    most true x = le-refl _
-    most false x = omega arith
+-- everything IDLE is good
+pub quiet-test : T (below 9 (λ t. both (not (runs t (replicate 4 0))) (eqb (getD (replicate 9 0) t 0) 0)))
+unfolding runs
+quiet-test = tt

@@ -4,10 +4,10 @@ use Rattle.per.specs.Bits.{ofBit, toBit, toBits, numAt, bitsOf, widthIn, width}
 use Rattle.per.specs.Formats.{field, dep, via, only, absent, when, has, altCodec, neverCodec, choice, vec, list16}
 use Rattle.per.specs.Pdu.{pack, encode, window, start, finish, readPdu}
 use Rattle.fields.specs.Table.{angleC, positionC, timeC, meritC, fixC, reportC, emergencyReportC}
-use Rattle.fields.specs.Lists.{listed, entryC}
+use Rattle.lists.specs.Lists.{listed, entryC}
 use Rattle.uplink.specs.Interval.{intervalC, sentC, sentBits}
 use Rattle.uplink.specs.Table.{periodicC, groundAlt, groundC}
-use Rattle.downlink.specs.Parts.{ackedC, ackedEmergencyC, eventReportC, negativeC, noncomplianceC}
+use Rattle.parts.specs.Parts.{ackedC, ackedEmergencyC, eventReportC, negativeC, noncomplianceC}
 use Rattle.downlink.specs.Table.{airAlt, airC}
 use Rattle.pdu.specs.Bench.{bench, reread, rewritten, all}
 

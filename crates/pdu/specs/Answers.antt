@@ -6,7 +6,7 @@ use Rattle.per.specs.Codec.{Codec}
 use Rattle.per.specs.Pdu.{Answer, got, refused}
 use Rattle.pen.specs.declared.Written.{Written}
 use Rattle.pen.specs.Writing.{writePdu}
-use Rattle.fields.specs.Lists.{noList}
+use Rattle.lists.specs.Lists.{noList}
 use Rattle.uplink.specs.declared.Ground.{Ground}
 use Rattle.downlink.specs.declared.AirPdu.{AirPdu}
 use Rattle.pdu.specs.declared.AirReading.{AirReading}

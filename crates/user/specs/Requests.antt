@@ -9,7 +9,7 @@ use Rattle.moves.specs.Tests.{pick}
 use Rattle.moves.specs.Moves.{moveOf}
 use Rattle.moves.specs.Acts.{acts}
 use Rattle.link.specs.Record.{LI-IDLE, LI-START, LI-ACTIVE, LI-END, withLi}
-use Rattle.link.specs.Step.{actsOf, moved}
+use Rattle.executor.specs.Step.{actsOf, moved}
 use Rattle.link.specs.declared.record.Link.{Link}
 use Rattle.mail.specs.Events.{cancel-all, requestEvent}
 use Rattle.mail.specs.Sent.{sent, letter}

@@ -2,6 +2,7 @@
 use answers::abort::Ending;
 use answers::abort::close_when;
 use answers::answer::*;
+use executor::perform;
 use link::record::LI_ACTIVE;
 use link::record::LI_END;
 use link::record::LI_IDLE;
@@ -9,7 +10,6 @@ use link::record::LI_START;
 use link::record::Link;
 use link::record::is_good;
 use link::record::with_li;
-use link::step::perform;
 use mail::events::CANCEL_ALL;
 use mail::events::request_event;
 use mail::sent::nothing;

@@ -1,11 +1,10 @@
 use borrow.Author.Tests.{not-true, not-false, eq-eqb, ne-eqb}
 use mathlib.Core.Path.{sym, ap, _∙_}
-use Rattle.arrivals.specs.Arrivals.{arrived}
+use Rattle.arrivals.specs.Arrivals.{arrived, arrived}
 use Prim.Native.Nat.{ℕ}
 use lib.Dec.{eqb}
 use borrow.Author.Tests.{not-true, not-false, ne-eqb}
 use mathlib.Core.Path.{sym, _∙_}
-use Rattle.arrivals.specs.Arrivals.{arrived}
 use borrow.Author.Needs.{needs}
 use Rattle.arrivals.proofs.data.Statement.{statement}
 use Rattle.arrivals.proofs.data.Tie as tie

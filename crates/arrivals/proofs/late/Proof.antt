@@ -1,6 +1,6 @@
 use mathlib.Core.List.{[]}
 use lib.Dec.{lit<}
-use Rattle.link.proofs.Pushes.{push-acts}
+use Rattle.executor.proofs.Pushes.{push-acts}
 use Rattle.arrivals.specs.Arrivals.{lateData}
 use borrow.Author.Needs.{needs}
 use Rattle.arrivals.proofs.late.Statement.{statement}

@@ -1,11 +1,11 @@
 use mathlib.Core.Path.{_≡_, sym, ap, _∙_}
 use mathlib.Core.Bool.{true, false}
 use Rattle.link.specs.Record.{idle}
-use Rattle.link.specs.Step.{actsOf, moved, performed}
-use Rattle.link.specs.declared.step.Step.{Step}
-use Rattle.link.proofs.Pushes.{push-acts}
+use Rattle.executor.specs.Step.{actsOf, moved, performed}
+use Rattle.executor.specs.declared.Step.{Step}
+use Rattle.executor.proofs.Pushes.{push-acts}
 use Rattle.arrivals.specs.Arrivals.{ended}
-use Rattle.link.proofs.Laws.{short}
+use Rattle.executor.proofs.Few.{short}
 use native.Mathlib.Omega.{arith}
 use borrow.Author.Needs.{needs}
 use Rattle.arrivals.proofs.perform_data.Statement.{statement}

@@ -15,14 +15,14 @@ use Rattle.uplink.specs.declared.interval.Interval.{Interval}
 use Rattle.uplink.specs.declared.interval.Interval.the-variants.{Seconds, Minutes}
 use Rattle.uplink.specs.declared.Ground.{Ground}
 use Rattle.uplink.specs.declared.Ground.the-variants as ground
-use Rattle.downlink.specs.declared.told.AckedReport.{AckedReport}
-use Rattle.downlink.specs.declared.told.AckedEmergency.{AckedEmergency}
-use Rattle.downlink.specs.declared.told.EventReport.{EventReport}
+use Rattle.parts.specs.declared.told.AckedReport.{AckedReport}
+use Rattle.parts.specs.declared.told.AckedEmergency.{AckedEmergency}
+use Rattle.parts.specs.declared.told.EventReport.{EventReport}
 use Rattle.downlink.specs.declared.Air.{Air}
 use Rattle.downlink.specs.declared.AirPdu.{AirPdu}
 use Rattle.downlink.specs.Table.{kindTag}
-use Rattle.fields.specs.Lists.{noList}
-use Rattle.fields.specs.declared.list.Listed.{Listed}
+use Rattle.lists.specs.Lists.{noList}
+use Rattle.lists.specs.declared.Listed.{Listed}
 use Rattle.downlink.specs.declared.Air.the-variants as air
 use Rattle.flat.specs.Numbers.{truth, numberBy, bitOf, twos, signedOf, itemsOf}
 use Rattle.flat.specs.Grounds.{intervalOf, scaleOf, timesOf, flatGround, groundAt}

@@ -1,5 +1,5 @@
 use borrow.Author.Tests.{eq-eqb, ne-eqb}
-use Rattle.link.specs.Step.{performed}
+use Rattle.executor.specs.Step.{performed}
 use Rattle.user.specs.Requests.{asked}
 use borrow.Author.Needs.{needs}
 use Rattle.user.proofs.ask.Statement.{statement}

@@ -1,11 +1,10 @@
 use borrow.Author.Tests.{not-true, not-false, eq-eqb, ne-eqb}
 use mathlib.Core.Path.{sym, ap, _∙_}
-use Rattle.user.specs.Requests.{requested}
+use Rattle.user.specs.Requests.{requested, requested}
 use Prim.Native.Nat.{ℕ}
 use lib.Dec.{eqb}
 use borrow.Author.Tests.{not-true, not-false, eq-eqb, ne-eqb}
 use mathlib.Core.Path.{sym, _∙_}
-use Rattle.user.specs.Requests.{requested}
 use borrow.Author.Needs.{needs}
 use Rattle.user.proofs.request.Statement.{statement}
 use Rattle.user.proofs.request.Tie as tie
