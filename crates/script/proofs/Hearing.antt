@@ -12,8 +12,8 @@ use Rattle.per.specs.Pdu.{Answer, got, refused}
 use Rattle.uplink.specs.declared.Ground.{Ground}
 use Rattle.pdu.specs.Answers.{groundReading}
 use Rattle.text.specs.Text.{pick, hexGood, hexOf, hexInto, octetsOf}
-use Rattle.text.specs.Numbers.{numberOf}
-use Rattle.text.specs.declared.numbers.Number as number
+use Rattle.digits.specs.Numbers.{numberOf}
+use Rattle.digits.specs.declared.Number as number
 use Rattle.text.proofs.Laws.{part-all}
 use Rattle.text.proofs.Trip.{read-front}
 use Rattle.ground.specs.declared.call.Call.{Call}

@@ -8,9 +8,9 @@ use Rattle.uplink.specs.declared.Ground.{Ground}
 use Rattle.uplink.specs.Table.{groundC}
 use Rattle.pdu.specs.declared.GroundAnswer as ground
 use Rattle.text.specs.Text.{pick, hexGood, octetsOf}
-use Rattle.text.specs.Numbers.{numberOf}
+use Rattle.digits.specs.Numbers.{numberOf}
 use Rattle.text.specs.declared.Hex as hex
-use Rattle.text.specs.declared.numbers.Number as number
+use Rattle.digits.specs.declared.Number as number
 use Rattle.ground.specs.declared.call.Call.{Call}
 use Rattle.ground.specs.declared.call.Call.the-variants.{Request, UserAbort, Elapse, StartConfirm, StartRejected, Data, EndConfirm, PeerAbort, AirAbort, Down}
 use Rattle.script.specs.declared.line.Told.{Told}

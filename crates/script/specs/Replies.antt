@@ -6,9 +6,9 @@ use Prim.Native.Nat.{ℕ, _≤_}
 use lib.Dec.{eqb, ltb}
 use lib.ListN.{length, take, drop}
 use Rattle.text.specs.Text.{pick, wordEnd}
-use Rattle.text.specs.Numbers.{nineOf}
+use Rattle.digits.specs.Numbers.{nineOf}
 use Rattle.text.specs.Page.{Page, Writes}
-use Rattle.text.specs.declared.numbers.Nine.{Nine}
+use Rattle.digits.specs.declared.Nine.{Nine}
 use Rattle.link.specs.declared.record.Link.{Link}
 use Rattle.answers.specs.Fresh.{opened}
 use Rattle.ground.specs.Runs.{answered}

@@ -1,12 +1,12 @@
 // What follows the word of a line, and the call that the line asks.
 use crate::words::*;
+use digits::Number;
+use digits::parse_number;
 use ground::call::Call;
 use pdu::GroundAnswer;
 use pdu::decode_ground;
 use text::Hex;
 use text::least;
-use text::numbers::Number;
-use text::numbers::parse_number;
 use text::parse_hex;
 ghost use mathlib.Core.Path.{_≡_};
 ghost use Prim.Native.Nat.{_≤_};

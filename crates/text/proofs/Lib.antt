@@ -1,4 +1,3 @@
 pub mod Laws
-pub mod Counting
 pub mod Pages
 pub mod Trip

@@ -1,5 +1,4 @@
 // Text on lent octets: words, hexadecimal octets in lower case, whole numbers; and writing such text onto a lent page.
-pub mod numbers;
 
 ghost use mathlib.Core.Path.{_≡_};
 ghost use mathlib.Core.Bool.{true, false};

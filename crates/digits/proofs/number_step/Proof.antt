@@ -1,8 +1,8 @@
-use Rattle.text.proofs.Counting.{step-none, step-bad, step-good}
+use Rattle.digits.proofs.Counting.{step-none, step-bad, step-good}
 use mathlib.Core.Path.{_∙_}
 use borrow.Author.Needs.{needs}
-use Rattle.text.proofs.numbers.number_step.Statement.{statement}
-use Rattle.text.proofs.numbers.number_step.Tie as tie
+use Rattle.digits.proofs.number_step.Statement.{statement}
+use Rattle.digits.proofs.number_step.Tie as tie
 
 returns : tie.Need-returns
 returns c = step-none _ (c .if1 .taken)

@@ -1,9 +1,9 @@
 use native.Mathlib.Omega.{arith}
-use Rattle.text.proofs.Counting.{number-none, number-zero, number-one, number-long}
+use Rattle.digits.proofs.Counting.{number-none, number-zero, number-one, number-long}
 use mathlib.Core.Path.{sym, _∙_}
 use borrow.Author.Needs.{needs}
-use Rattle.text.proofs.numbers.parse_number.Statement.{statement}
-use Rattle.text.proofs.numbers.parse_number.Tie as tie
+use Rattle.digits.proofs.parse_number.Statement.{statement}
+use Rattle.digits.proofs.parse_number.Tie as tie
 
 returns : tie.Need-returns
 returns c = sym (number-none _ (c .if1 .taken))

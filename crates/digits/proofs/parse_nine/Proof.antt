@@ -1,14 +1,14 @@
 use native.Mathlib.Omega.{arith}
 use mathlib.Core.Path.{subst}
 use borrow.Author.Tests.{not-true, not-false}
-use Rattle.text.specs.Numbers.{nineFrom, nineOf}
-use Rattle.text.proofs.Counting.{nine-more, nine-stop, nine-within, nine-end}
+use Rattle.digits.specs.Numbers.{nineFrom, nineOf}
+use Rattle.digits.proofs.Counting.{nine-more, nine-stop, nine-within, nine-end}
 use lib.ListN.{length, drop}
 use Prim.Native.Nat.{ℕ, suc, _+_, _-_, _≤_}
 use mathlib.Core.Path.{_≡_, refl, sym, _∙_}
 use borrow.Author.Needs.{needs}
-use Rattle.text.proofs.numbers.parse_nine.Statement.{statement}
-use Rattle.text.proofs.numbers.parse_nine.Tie as tie
+use Rattle.digits.proofs.parse_nine.Statement.{statement}
+use Rattle.digits.proofs.parse_nine.Tie as tie
 
 abbrev Inv-loop : tie.InvT-loop
 Inv-loop s list₀ at₀ i₀ list at i = (i ≤ 9) × (at ≤ length s) × (nineFrom (9 - i) i list (drop at s) ≡ nineOf s)

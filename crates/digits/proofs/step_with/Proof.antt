@@ -1,7 +1,7 @@
-use Rattle.text.specs.Numbers.{steppedOf}
+use Rattle.digits.specs.Numbers.{steppedOf}
 use borrow.Author.Needs.{needs}
-use Rattle.text.proofs.numbers.step_with.Statement.{statement}
-use Rattle.text.proofs.numbers.step_with.Tie as tie
+use Rattle.digits.proofs.step_with.Statement.{statement}
+use Rattle.digits.proofs.step_with.Tie as tie
 
 enum-known-n : tie.Need-enum-known-n
 enum-known-n c = search needs

@@ -4,11 +4,11 @@ use mathlib.Core.List.{List, [], _∷_}
 use Prim.Native.Nat.{ℕ, zero, suc, _+_, _-_, _*_}
 use lib.Dec.{eqb, leb}
 use lib.ListN.{length, take, drop, set, replicate}
 use Rattle.text.specs.Text.{pick, both, wordEnd}
-use Rattle.text.specs.declared.numbers.Number.{Number}
-use Rattle.text.specs.declared.numbers.Number.the-variants.{Value, Unread}
-use Rattle.text.specs.declared.numbers.Stepped.{Stepped}
-use Rattle.text.specs.declared.numbers.Nine.{Nine}
+use Rattle.digits.specs.declared.Number.{Number}
+use Rattle.digits.specs.declared.Number.the-variants.{Value, Unread}
+use Rattle.digits.specs.declared.Stepped.{Stepped}
+use Rattle.digits.specs.declared.Nine.{Nine}
 
 -- digits read from the left onto the number v; refused as soon as it does not fit 32 bits
 abbrev pub numberFrom : ℕ → List ℕ → Number

@@ -1,7 +1,7 @@
 // Whole numbers as text, one or nine of them.
-use crate::word_end;
+use text::word_end;
 ghost use mathlib.Core.Path.{_≡_};
-ghost use Rattle.text.specs.Numbers.{numberFrom, numberOf, steppedOf, stepOf, nineOf};
+ghost use Rattle.digits.specs.Numbers.{numberFrom, numberOf, steppedOf, stepOf, nineOf};
 
 // What reading a whole number finds.
 pub enum Number {

@@ -1,13 +1,13 @@
-use Rattle.text.proofs.Counting.{number-end}
+use Rattle.digits.proofs.Counting.{number-end}
 use native.Mathlib.Omega.{arith}
-use Rattle.text.specs.Numbers.{numberFrom}
-use Rattle.text.proofs.Counting.{number-more, number-low, number-high, number-big}
+use Rattle.digits.specs.Numbers.{numberFrom}
+use Rattle.digits.proofs.Counting.{number-more, number-low, number-high, number-big}
 use lib.ListN.{length, drop}
 use Prim.Native.Nat.{_-_, _≤_}
 use mathlib.Core.Path.{_≡_, refl, sym, _∙_}
 use borrow.Author.Needs.{needs}
-use Rattle.text.proofs.numbers.digits_of.Statement.{statement}
-use Rattle.text.proofs.numbers.digits_of.Tie as tie
+use Rattle.digits.proofs.digits_of.Statement.{statement}
+use Rattle.digits.proofs.digits_of.Tie as tie
 
 abbrev Inv-loop : tie.InvT-loop
 Inv-loop s v₀ i₀ v i = (i ≤ length s) × (v ≤ 4294967295) × (numberFrom v (drop i s) ≡ numberFrom 0 s)
