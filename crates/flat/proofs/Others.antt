@@ -3,7 +3,7 @@ use Prim.Native.Nat.{ℕ, suc, _-_, _≤_}
 use mathlib.Core.Path.{_≡_, ap}
 use mathlib.Core.List.{List}
 use native.Mathlib.Omega.{arith}
-use Rattle.uplink.specs.declared.interval.Interval.the-variants as interval
+use Rattle.contracts.specs.declared.interval.Interval.the-variants as interval
 use Rattle.uplink.specs.declared.Ground.the-variants as ground
 use Rattle.downlink.specs.declared.Air.the-variants as air
 use Rattle.flat.specs.Grounds.{groundBy, intervalOf}

@@ -3,9 +3,9 @@
 use mathlib.Core.List.{List, [], _∷_}
 use Prim.Native.Nat.{ℕ, zero, suc}
 use lib.ListN.{getD}
-use Rattle.uplink.specs.declared.interval.Interval.{Interval}
-use Rattle.uplink.specs.declared.interval.Interval.the-variants.{Seconds, Minutes}
-use Rattle.uplink.specs.declared.contract.Periodic.{Periodic}
+use Rattle.contracts.specs.declared.interval.Interval.{Interval}
+use Rattle.contracts.specs.declared.interval.Interval.the-variants.{Seconds, Minutes}
+use Rattle.contracts.specs.declared.contract.Periodic.{Periodic}
 use Rattle.uplink.specs.declared.Ground.{Ground}
 use Rattle.uplink.specs.declared.Ground.the-variants.{CancelAll, CancelContract, CancelEmergencyAck, DemandContract, EventContract, ModifyEmergency, PeriodicContract, Abort}
 

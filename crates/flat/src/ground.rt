@@ -1,8 +1,8 @@
 // Ground PDUs as nine numbers.
 use crate::numbers::number;
+use contracts::contract::Periodic;
+use contracts::interval::Interval;
 use uplink::Ground;
-use uplink::contract::Periodic;
-use uplink::interval::Interval;
 ghost use mathlib.Core.Path.{_≡_};
 ghost use Rattle.flat.specs.Grounds.{flatGround, flatModify, flatPeriodic, pairOf, scaleOf, timesOf, intervalOf, periodicAt, groundAt};
 

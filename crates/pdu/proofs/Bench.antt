@@ -5,8 +5,9 @@ use Rattle.per.specs.Formats.{field, dep, via, only, absent, when, has, altCode
 use Rattle.per.specs.Pdu.{pack, encode, window, start, finish, readPdu}
 use Rattle.fields.specs.Table.{angleC, positionC, timeC, meritC, fixC, reportC, emergencyReportC}
 use Rattle.lists.specs.Lists.{listed, entryC}
-use Rattle.uplink.specs.Interval.{intervalC, sentC, sentBits}
-use Rattle.uplink.specs.Table.{periodicC, groundAlt, groundC}
+use Rattle.contracts.specs.Interval.{intervalC, sentC, sentBits}
+use Rattle.contracts.specs.Periodic.{periodicC}
+use Rattle.uplink.specs.Table.{groundAlt, groundC}
 use Rattle.parts.specs.Parts.{ackedC, ackedEmergencyC, eventReportC, negativeC, noncomplianceC}
 use Rattle.downlink.specs.Table.{airAlt, airC}
 use Rattle.pdu.specs.Bench.{bench, reread, rewritten, all}

@@ -6,8 +6,8 @@ use lib.IntN.{pos}
 use Rattle.per.specs.Pdu.{Answer, got, refused, encode, readPdu}
 use Rattle.fields.specs.declared.position.Angle.{Angle}
 use Rattle.fields.specs.declared.report.Report.{Report}
-use Rattle.uplink.specs.declared.interval.Interval.the-variants.{Minutes}
-use Rattle.uplink.specs.declared.contract.Periodic.{Periodic}
+use Rattle.contracts.specs.declared.interval.Interval.the-variants.{Minutes}
+use Rattle.contracts.specs.declared.contract.Periodic.{Periodic}
 use Rattle.uplink.specs.declared.Ground.{Ground}
 use Rattle.uplink.specs.declared.Ground.the-variants.{CancelContract, DemandContract, EventContract, ModifyEmergency, PeriodicContract}
 use Rattle.uplink.specs.declared.Ground as ground

@@ -6,8 +6,9 @@ use Rattle.per.specs.Bits.{width, widthIn}
 use Rattle.per.specs.Formats.{numField}
 use Rattle.per.proofs.Within.{forms}
 use Rattle.per.proofs.Longest.{Most, up, a-field, a-pair, a-like, a-mark, an-only, a-null, a-when, an-alt, an-unused, a-choice}
-use Rattle.uplink.specs.Interval.{intervalAlt, intervalC, sentC, modulus, moduliC}
-use Rattle.uplink.specs.Table.{periodicC, groundAlt, groundC}
+use Rattle.contracts.specs.Interval.{intervalAlt, intervalC, sentC, modulus, moduliC}
+use Rattle.contracts.specs.Periodic.{periodicC}
+use Rattle.uplink.specs.Table.{groundAlt, groundC}
 
 -- ---- one form
 interval-each : (n i : ℕ) → Within n (intervalAlt i .codec)

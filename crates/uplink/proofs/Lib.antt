@@ -1,4 +1,2 @@
-pub mod Counting
-pub mod Intervals
 pub mod Bounds
 pub mod Norms

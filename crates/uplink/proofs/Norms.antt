@@ -7,13 +7,14 @@ use lib.Bits.{bitAnd, and-block, and-high, and-zero-r}
 use lib.Dec.{lit<}
 use borrow.Author.Tests.{ne-eqb}
 use Rattle.per.specs.Formats.{field, dep, via, only, absent, when, has, num, altCodec, choice}
-use Rattle.uplink.specs.declared.interval.Interval.{Interval}
-use Rattle.uplink.specs.declared.contract.Periodic.{Periodic}
+use Rattle.contracts.specs.declared.interval.Interval.{Interval}
+use Rattle.contracts.specs.declared.contract.Periodic.{Periodic}
 use Rattle.uplink.specs.declared.Ground.{Ground}
 use Rattle.uplink.specs.declared.Ground.the-variants.{CancelAll, CancelContract, CancelEmergencyAck, DemandContract, EventContract, ModifyEmergency, PeriodicContract, Abort}
-use Rattle.uplink.specs.Interval.{fiveMinutes, isFive, sentC, sentBits}
-use Rattle.uplink.specs.Table.{periodicC, groundTag, groundAlt, groundC}
-use Rattle.uplink.proofs.Intervals.{interval-norm, low-bits, five-is}
+use Rattle.contracts.specs.Interval.{fiveMinutes, isFive, sentC, sentBits}
+use Rattle.contracts.specs.Periodic.{periodicC}
+use Rattle.uplink.specs.Table.{groundTag, groundAlt, groundC}
+use Rattle.contracts.proofs.Intervals.{interval-norm, low-bits, five-is}
 
 when-norm : (b : Bool) (lo hi n : ℕ) → when b 0 (num lo hi) .norm n ≡ cond b n 0
 unfolding when absent field

@@ -1,4 +1,2 @@
-pub mod Interval
 pub mod Table
 pub mod Asked
-pub mod laws

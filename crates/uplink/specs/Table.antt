@@ -1,33 +1,15 @@
 -- The message table of 01, ground PDUs: 01's line stands above each definition.
-use Prim.Native.Nat.{ℕ, zero, suc, _%_}
+use Prim.Native.Nat.{ℕ, zero, suc}
 use mathlib.Core.Path.{refl}
 use mathlib.Core.Bool.{true, false}
-use lib.Dec.{leb}
-use Rattle.per.specs.Codec.{Codec, unless}
-use Rattle.per.specs.Formats.{null, dep, via, num, ext, mask, choice, Alt, alt, unused}
-use Rattle.uplink.specs.declared.interval.Interval.{Interval}
-use Rattle.uplink.specs.declared.contract.Periodic.{Periodic}
+use Rattle.per.specs.Codec.{Codec}
+use Rattle.per.specs.Formats.{null, num, ext, mask, choice, Alt, alt, unused}
+use Rattle.contracts.specs.declared.interval.Interval.{Interval}
+use Rattle.contracts.specs.declared.contract.Periodic.{Periodic}
 use Rattle.uplink.specs.declared.Ground.{Ground}
 use Rattle.uplink.specs.declared.Ground.the-variants.{CancelAll, CancelContract, CancelEmergencyAck, DemandContract, EventContract, ModifyEmergency, PeriodicContract, Abort}
-use Rattle.uplink.specs.Interval.{intervalC, fiveMinutes, isFive, periodicBits, periodicRest, sentBits}
-use Rattle.uplink.specs.laws.Periodic.{periodic-left}
-
--- "Periodic contract: 8 presence bits (interval, default 5 minutes; five moduli 1..255 in the report's order; two not carried)"
-unfoldable pub periodicC : Codec Periodic
-periodicC =
-    via (dep periodicBits periodicRest)
-    (λ p. record {
-      interval = p .1 .0;
-      elements = p .0 % 128;
-      address = p .1 .1 .0;
-      profile = p .1 .1 .1 .0;
-      ground = p .1 .1 .1 .1 .0;
-      air = p .1 .1 .1 .1 .1 .0;
-      weather = p .1 .1 .1 .1 .1 .1;
-    })
-    (λ a. (sentBits (isFive (a .interval)) (a .elements), (a .interval, (a .address, (a .profile, (a .ground, (a .air, a .weather)))))))
-    (λ a. unless (leb (a .elements) 127) 5)
-    periodic-left
+use Rattle.contracts.specs.Interval.{intervalC, fiveMinutes}
+use Rattle.contracts.specs.Periodic.{periodicC}
 
 -- the index of a PDU, and what each kind holds
 abbrev pub groundTag : Ground → ℕ

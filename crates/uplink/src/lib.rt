@@ -1,14 +1,12 @@
 // Ground PDUs: what the ground sends. Each file holds a type with its reader and writer.
-pub mod contract;
-pub mod interval;
 
-use crate::contract::Periodic;
-use crate::contract::asked_periodic;
-use crate::contract::read_periodic;
-use crate::contract::write_periodic;
-use crate::interval::Interval;
-use crate::interval::read_interval;
-use crate::interval::write_interval;
+use contracts::contract::Periodic;
+use contracts::contract::asked_periodic;
+use contracts::contract::read_periodic;
+use contracts::contract::write_periodic;
+use contracts::interval::Interval;
+use contracts::interval::read_interval;
+use contracts::interval::write_interval;
 use pen::Pen;
 use per::cursor::Cursor;
 ghost use mathlib.Core.Path.{_≡_};

@@ -11,8 +11,8 @@ use lib.IntN.{ℤ, pos}
 use lib.Signed.{mag}
 use mir.Facts.{toZ-ofZ}
 use Rattle.fields.specs.declared.report.Fix.{Fix}
-use Rattle.uplink.specs.declared.interval.Interval.{Interval}
-use Rattle.uplink.specs.declared.interval.Interval.the-variants.{Seconds, Minutes}
+use Rattle.contracts.specs.declared.interval.Interval.{Interval}
+use Rattle.contracts.specs.declared.interval.Interval.the-variants.{Seconds, Minutes}
 use Rattle.uplink.specs.declared.Ground.{Ground}
 use Rattle.uplink.specs.declared.Ground.the-variants as ground
 use Rattle.parts.specs.declared.told.AckedReport.{AckedReport}

@@ -1,6 +1,6 @@
 use native.Mathlib.Omega.{arith}
 use Rattle.uplink.specs.Asked.{askedOf}
-use Rattle.uplink.proofs.Counting.{count-is}
+use Rattle.contracts.proofs.Counting.{count-is}
 use borrow.Author.Needs.{needs}
 use Rattle.uplink.proofs.asked.Statement.{statement}
 use Rattle.uplink.proofs.asked.Tie as tie

@@ -1,0 +1,4 @@
+pub mod Interval
+pub mod Periodic
+pub mod Ones
+pub mod laws
