@@ -34,11 +34,11 @@ CONSTANTS = {
 
 # The arms of a match on a kind: the number of each variant.
 KINDS = {
-    "flat/src/ground.rt": ("Ground", {
+    "flatup/src/lib.rt": ("Ground", {
         "ADSC_CANCEL_ALL": "CancelAll", "ADSC_CANCEL_CONTRACT": "CancelContract", "ADSC_CANCEL_EMERGENCY_ACK": "CancelEmergencyAck",
         "ADSC_DEMAND_CONTRACT": "DemandContract", "ADSC_EVENT_CONTRACT": "EventContract", "ADSC_MODIFY_EMERGENCY": "ModifyEmergency",
         "ADSC_PERIODIC_CONTRACT": "PeriodicContract", "ADSC_GROUND_ABORT": "Abort"}),
-    "flat/src/air.rt": ("Air", {
+    "flatdown/src/lib.rt": ("Air", {
         "ADSC_CANCEL_EMERGENCY": "CancelEmergency", "ADSC_DEMAND_REPORT": "Demand", "ADSC_EMERGENCY_REPORT": "Emergency", "ADSC_EVENT_REPORT": "Event",
         "ADSC_NEGATIVE_ACK": "Negative", "ADSC_NONCOMPLIANCE": "Noncompliance", "ADSC_PERIODIC_REPORT": "Periodic", "ADSC_POSITIVE_ACK": "Positive",
         "ADSC_AIR_ABORT": "Abort"}),
@@ -46,17 +46,17 @@ KINDS = {
 
 # The array that a function ends with: its size, and the place of each entry that has a name.
 ARRAYS = [
-    ("flat/src/ground.rt", "flat_periodic", "ADSC_GROUND_NUMBERS", {
+    ("flatup/src/lib.rt", "flat_periodic", "ADSC_GROUND_NUMBERS", {
         "ADSC_G_KIND": "6", "ADSC_G_WHAT": "a.elements", "ADSC_G_SCALE": "scale", "ADSC_G_INTERVAL": "times", "ADSC_G_ADDRESS": "a.address",
         "ADSC_G_PROFILE": "a.profile", "ADSC_G_GROUND_VECTOR": "a.ground", "ADSC_G_AIR_VECTOR": "a.air", "ADSC_G_WEATHER": "a.weather"}),
-    ("flat/src/air.rt", "flat_fix", "ADSC_AIR_NUMBERS", {
+    ("flatfix/src/lib.rt", "flat_fix", "ADSC_AIR_NUMBERS", {
         "ADSC_A_KIND": "kind", "ADSC_A_WHAT": "bit(ack)", "ADSC_A_DETAIL": "event", "ADSC_A_ELEMENTS": "elements", "ADSC_A_SOUTH": "bit(la.minus)",
         "ADSC_A_LATITUDE": "la.degrees", "ADSC_A_LATITUDE_MINUTES": "la.minutes", "ADSC_A_LATITUDE_TENTHS": "la.tenths", "ADSC_A_WEST": "bit(lo.minus)",
         "ADSC_A_LONGITUDE": "lo.degrees", "ADSC_A_LONGITUDE_MINUTES": "lo.minutes", "ADSC_A_LONGITUDE_TENTHS": "lo.tenths", "ADSC_A_LEVEL": "complement(level)",
         "ADSC_A_YEAR": "t.year", "ADSC_A_MONTH": "t.month", "ADSC_A_DAY": "t.day", "ADSC_A_HAS_SECONDS": "bit(t.has_seconds)", "ADSC_A_HOURS": "t.hours",
         "ADSC_A_MINUTES": "t.minutes", "ADSC_A_SECONDS": "t.seconds", "ADSC_A_ACCURACY": "m.accuracy", "ADSC_A_UNITS": "bit(m.units)",
         "ADSC_A_AVOIDANCE": "bit(m.avoidance)", "ADSC_A_ADDRESS": "address"}),
-    ("flat/src/air.rt", "few_of", "ADSC_AIR_NUMBERS", {"ADSC_A_KIND": "kind", "ADSC_A_WHAT": "a", "ADSC_A_DETAIL": "b", "ADSC_A_COUNT": "count"}),
+    ("flatdown/src/lib.rt", "few_of", "ADSC_AIR_NUMBERS", {"ADSC_A_KIND": "kind", "ADSC_A_WHAT": "a", "ADSC_A_DETAIL": "b", "ADSC_A_COUNT": "count"}),
     ("frame/src/said.rt", "said_octets", "ADSC_ANSWER_OCTETS", {
         "ADSC_ANSWER_REASON": "(w / 16777216) as u8", "ADSC_ANSWER_ACTIONS": "n", "ADSC_ANSWER_SENT": "m"}),
 ]

@@ -15,9 +15,10 @@ use Rattle.downlink.specs.declared.AirPdu.{AirPdu}
 use Rattle.downlink.specs.Table.{airC}
 use Rattle.downlink.proofs.Norms.{air-norm}
 use Rattle.pdu.proofs.Promises.{air-read, ground-read}
-use Rattle.flat.specs.Grounds.{flatGround, groundAt}
-use Rattle.flat.specs.Airs.{flatAir, airAt}
-use Rattle.flat.specs.laws.Back.{levelIn, listFor, pdu-back, ground-back}
+use Rattle.flatup.specs.Grounds.{flatGround, groundAt}
+use Rattle.flatdown.specs.Airs.{flatAir, airAt}
+use Rattle.flatup.specs.laws.Back.{ground-back}
+use Rattle.flatdown.specs.laws.Back.{levelIn, listFor, pdu-back}
 use Rattle.adschost.specs.Flatness.{AirShown, ShowsAir, GroundShown, ShowsGround, WritesFlat}
 
 -- "one possible result and one possible content of each lent buffer"

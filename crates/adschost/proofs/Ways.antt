@@ -15,8 +15,8 @@ use Rattle.pdu.specs.declared.AirReading.{AirReading}
 use Rattle.pdu.specs.declared.AirAnswer.the-variants as air
 use Rattle.pdu.specs.declared.GroundAnswer.{GroundAnswer}
 use Rattle.pdu.specs.declared.GroundAnswer.the-variants as ground
-use Rattle.flat.specs.Grounds.{flatGround}
-use Rattle.flat.specs.Airs.{flatAir}
+use Rattle.flatup.specs.Grounds.{flatGround}
+use Rattle.flatdown.specs.Airs.{flatAir}
 use Rattle.adschost.specs.Flatness.{airShown, ShowsAir, groundShown, ShowsGround, numberOf, lengthOf, WritesFlat}
 
 -- ---- reading: what `decode_air` gave is the reading that the definition names

@@ -1,10 +1,10 @@
 // The calls on a link, one function each.
-use flat::ground::ground_at;
+use flatup::ground_at;
 use frame::step::make;
 use frame::step::step;
 use ground::call::Call;
 ghost use mathlib.Core.List.{[]};
-ghost use Rattle.flat.specs.Grounds.{groundAt};
+ghost use Rattle.flatup.specs.Grounds.{groundAt};
 ghost use Rattle.ground.specs.declared.call.Call.the-variants.{Request, UserAbort, Elapse, StartConfirm, StartRejected, Data, EndConfirm, PeerAbort, AirAbort, Down};
 ghost use Rattle.frame.specs.Hosting.{hosted, Hosts, made, Makes};
 

@@ -1,10 +1,10 @@
 // PDUs to flat numbers and back.
-use flat::air::air_at;
-use flat::air::flat_air;
 use flat::copy::copy_numbers;
 use flat::copy::put_items;
-use flat::ground::flat_ground;
-use flat::ground::ground_at;
+use flatdown::air_at;
+use flatdown::flat_air;
+use flatup::flat_ground;
+use flatup::ground_at;
 use pdu::AirAnswer;
 use pdu::GroundAnswer;
 use pdu::decode_air;
@@ -18,8 +18,8 @@ ghost use Rattle.pen.specs.Writing.{writePdu};
 ghost use Rattle.uplink.specs.Table.{groundC};
 ghost use Rattle.downlink.specs.Table.{airC};
 ghost use Rattle.pdu.specs.Answers.{airReading, groundReading};
-ghost use Rattle.flat.specs.Grounds.{groundAt};
-ghost use Rattle.flat.specs.Airs.{airAt};
+ghost use Rattle.flatup.specs.Grounds.{groundAt};
+ghost use Rattle.flatdown.specs.Airs.{airAt};
 ghost use Rattle.adschost.specs.Flatness.{airShown, ShowsAir, groundShown, ShowsGround, numberOf, lengthOf, WritesFlat};
 
 // An aircraft PDU as 25 numbers and the 128 octets of its list.

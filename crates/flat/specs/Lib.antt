@@ -1,4 +1,1 @@
 pub mod Numbers
-pub mod Grounds
-pub mod Airs
-pub mod laws

@@ -1,5 +1,3 @@
-// PDUs as flat lists of numbers, for a host that has no enums. Missing numbers count as 0; numbers that name nothing make a value that no writer takes.
-pub mod air;
+// Flat lists of numbers, in which a host that has no enums has PDUs: what stands at one place, and copies of whole lists. Missing numbers count as 0.
 pub mod copy;
-pub mod ground;
 pub mod numbers;

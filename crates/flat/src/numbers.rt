@@ -10,28 +10,28 @@ pub fn number(f: &[u32], i: usize) -> u32
     if i < f.len() { f[i] } else { 0 }
 }
 
-pub(crate) fn truth_at(f: &[u32], i: usize) -> bool
+pub fn truth_at(f: &[u32], i: usize) -> bool
     ensures { λ r. ⌜ r ≡ truth (getD (now (f .entry)) i 0) ⌝ }
 {
     number(f, i) != 0
 }
 
 // The number at i; one that is in no range where the truth value at `flag`, which the writer cannot judge, is neither 0 nor 1.
-pub(crate) fn number_by(f: &[u32], flag: usize, i: usize) -> u32
+pub fn number_by(f: &[u32], flag: usize, i: usize) -> u32
     ensures { λ r. ⌜ r ≡ numberBy (now (f .entry)) flag i ⌝ }
 {
     let v = number(f, i);
     if number(f, flag) < 2 { v } else { 4294967295 }
 }
 
-pub(crate) fn bit(b: bool) -> u32
+pub fn bit(b: bool) -> u32
     ensures { λ r. ⌜ r ≡ bitOf b ⌝ }
 {
     if b { 1 } else { 0 }
 }
 
 // A number with a sign stands in its two's complement.
-pub(crate) fn signed_at(f: &[u32], i: usize) -> Signed
+pub fn signed_at(f: &[u32], i: usize) -> Signed
     ensures { λ r. ⌜ r ≡ signedOf (getD (now (f .entry)) i 0) ⌝ }
 {
     let v = number(f, i);
@@ -42,7 +42,7 @@ pub(crate) fn signed_at(f: &[u32], i: usize) -> Signed
     Signed { number: -1 - down }
 }
 
-pub(crate) fn complement(z: Signed) -> u32
+pub fn complement(z: Signed) -> u32
     ensures { λ r. ⌜ r ≡ twos (z .number) ⌝ }
 {
     let n = z.number;

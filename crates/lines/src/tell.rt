@@ -1,7 +1,7 @@
 // A PDU in words for a person.
 use downlink::Air;
-use flat::air::flat_air;
-use flat::ground::flat_ground;
+use flatdown::flat_air;
+use flatup::flat_ground;
 use lists::Listed;
 use plain::Page;
 use uplink::Ground;

@@ -1,4 +1,4 @@
-// A PDU as a line for a person: everything that 01 carries, in the words of 01, 002 and 003. A PDU comes as the numbers that `flat` makes of it.
+// A PDU as a line for a person: everything that 01 carries, in the words of 01, 002 and 003. A PDU comes as the numbers that `flatup` and `flatdown` make of it.
 pub mod air;
 mod form;
 pub mod ground;
