@@ -10,14 +10,13 @@ use borrow.Author.Tests.{lt-ltb, le-ltb, eq-eqb, ne-eqb}
 use lib.Dec.{eqb, ltb, lit≤}
 use lib.ListN.{length, getD, take, drop, set, length-take, length-append}
 use lib.Seq.{take-all, take-suc-set, length-take-le, sets, sets-eq, take-at}
+use Rattle.text.specs.Letters.{ascii}
 use Rattle.text.specs.Text.{pick, decimal}
 use Rattle.text.specs.Page.{Page, page, wrote, Writes}
+use Rattle.text.proofs.Laws.{take-min, decimal-length}
 use Rattle.text.proofs.Pages.{wrote-append, wrote-fits, after}
-use Rattle.script.specs.Words.{ascii}
 use Rattle.script.specs.Replies.{Reply, lineReply}
 use Rattle.script.specs.declared.reply.Bench.{Bench}
-use Rattle.script.proofs.Hearing.{take-min}
-use Rattle.script.proofs.Short.{decimal-length}
 use Rattle.desk.specs.declared.Desk.{Desk}
 use Rattle.desk.specs.Trace.{bumped, Mind, numbered, said, closed, next, saidAll, nextAll, endText, lastText, mind}
 

@@ -5,9 +5,9 @@ use mathlib.Core.List.{List, [], _∷_, _++_}
 use Prim.Native.Nat.{ℕ, _+_}
 use lib.Dec.{eqb, ltb}
 use lib.ListN.{length, take, replicate}
+use Rattle.text.specs.Letters.{ascii}
 use Rattle.text.specs.Text.{pick, decimal}
 use Rattle.answers.specs.Fresh.{fresh}
-use Rattle.script.specs.Words.{ascii}
 use Rattle.script.specs.Replies.{Reply, lineReply}
 use Rattle.script.specs.declared.reply.Bench.{Bench}
 use Rattle.desk.specs.declared.Desk.{Desk}

@@ -1,3 +1,1 @@
-pub mod Hearing
-pub mod Saying
-pub mod Short
+pub mod Ways

@@ -1,4 +1,1 @@
-pub mod Words
-pub mod Lines
-pub mod Says
 pub mod Replies

@@ -5,6 +5,7 @@ use mathlib.Core.List.{List}
 use Prim.Native.Nat.{ℕ, _≤_}
 use lib.Dec.{eqb, ltb}
 use lib.ListN.{length, take, drop}
+use Rattle.text.specs.Letters.{ascii}
 use Rattle.text.specs.Text.{pick, wordEnd}
 use Rattle.digits.specs.Numbers.{nineOf}
 use Rattle.text.specs.Page.{Page, Writes}
@@ -14,9 +15,9 @@ use Rattle.answers.specs.Fresh.{opened}
 use Rattle.ground.specs.Runs.{answered}
 use Rattle.answers.specs.declared.answer.Answer.{Answer}
 use Rattle.answers.specs.declared.fresh.Opened.{Opened}
-use Rattle.script.specs.Words.{ascii, wordOf}
-use Rattle.script.specs.Lines.{Asked, unread, asks, askedBy}
-use Rattle.script.specs.Says.{refusedText, saidText}
+use Rattle.asks.specs.Words.{wordOf}
+use Rattle.asks.specs.Lines.{Asked, unread, asks, askedBy}
+use Rattle.says.specs.Says.{refusedText, saidText}
 use Rattle.script.specs.declared.reply.Bench.{Bench}
 
 pub record Reply : Type 0 where

@@ -1,5 +1,2 @@
-// The bench script: a line becomes a call, its answer a line of the trace. No input or output here.
-pub mod line;
+// The bench script: the answer to a line, as text, and the box after it. No input or output here.
 pub mod reply;
-pub mod said;
-pub mod words;

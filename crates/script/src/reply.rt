@@ -1,14 +1,14 @@
 // The answer to one line of a script.
-use crate::line::Told;
-use crate::line::call_of;
-use crate::said::put_refused;
-use crate::said::put_said;
-use crate::words::SET;
-use crate::words::word_of;
 use answers::fresh::open;
+use asks::line::Told;
+use asks::line::asked;
+use asks::words::SET;
+use asks::words::word_of;
 use digits::parse_nine;
 use lent::answer_by;
 use link::record::Link;
+use says::put_refused;
+use says::put_said;
 use text::least;
 use text::put_text;
 use text::word_end;
@@ -16,7 +16,7 @@ ghost use mathlib.Core.Path.{_≡_};
 ghost use Prim.Native.Nat.{_≤_};
 ghost use lib.ListN.{length};
 ghost use Rattle.text.specs.Page.{page};
-ghost use Rattle.script.specs.Lines.{askedBy};
+ghost use Rattle.asks.specs.Lines.{askedOf};
 ghost use Rattle.script.specs.Replies.{refusedReply, playReply, setReply, lineReply, Replies};
 
 // The box at the bench: `ready` once it has its settings, and its link from then on.
@@ -46,12 +46,11 @@ fn blank() -> [u8; 2048]
 }
 
 // A line for a box that has its settings.
-fn play(link: Link, w: u8, tail: &[u8], out: &mut [u8], at: usize, lent: bool) -> Replied
-    requires { ⌜ length (now tail) ≤ 4096 ⌝ }
-    ensures { λ r. ⌜ Replies (playReply link (askedBy w (now (tail .entry)))) (page (now (out .entry)) at) (r .bench) (page (now (out .exit)) (r .at)) ⌝ }
+fn play(link: Link, line: &[u8], out: &mut [u8], at: usize, lent: bool) -> Replied
+    ensures { λ r. ⌜ Replies (playReply link (askedOf (now (line .entry)))) (page (now (out .entry)) at) (r .bench) (page (now (out .exit)) (r .at)) ⌝ }
 {
     let mut octets = blank();
-    let told = call_of(w, tail, &mut octets);
+    let told = asked(line, &mut octets);
     let Told::Asks(call, n) = told else {
         return refuse_line(Bench { ready: true, link }, 17, out, at);
     };
@@ -96,15 +95,15 @@ fn set_line(b: Bench, tail: &[u8], out: &mut [u8], at: usize) -> Replied
 pub fn answer_line(b: Bench, line: &[u8], out: &mut [u8], at: usize, lent: bool) -> Replied
     ensures { λ r. ⌜ Replies (lineReply b (now (line .entry))) (page (now (out .entry)) at) (r .bench) (page (now (out .exit)) (r .at)) ⌝ }
 {
+    let link = b.link;
+    if b.ready {
+        return play(link, line, out, at, lent);
+    }
     if 4096 < line.len() {
         return refuse_line(b, 17, out, at);
     }
     let e = word_end(line);
     let w = word_of(&line[..e]);
-    let link = b.link;
-    if b.ready {
-        return play(link, w, &line[e..], out, at, lent);
-    }
     if w == SET {
         return set_line(b, &line[e..], out, at);
     }

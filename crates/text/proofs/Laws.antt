@@ -1,17 +1,17 @@
 -- One turn of each loop, as a law on lists. Assumes nothing.
-use mathlib.Core.Path.{_≡_, refl, sym, ap, _∙_}
+use mathlib.Core.Path.{_≡_, refl, sym, ap, subst, _∙_}
 use mathlib.Core.Bool.{Bool, true, false}
 use mathlib.Core.List.{List, [], _∷_}
-use Prim.Native.Nat.{ℕ, zero, suc, _+_, _-_, _*_, _/_, _%_, _≤_, _<_}
+use Prim.Native.Nat.{ℕ, zero, suc, _+_, _-_, _*_, _/_, _%_, _≤_, _<_, min}
 use native.Mathlib.Omega.{arith}
 use native.Mathlib.Nat.{eq-or-lt-of-le}
 use mathlib.Core.Logic.{⊎-elim}
-use native.Mathlib.Numerals.{add-one}
+use native.Mathlib.Numerals.{add-one, unary-clauses}
 use borrow.Author.Tests.{lt-ltb, le-ltb, eq-eqb, ne-eqb, ltb-true, eqb-true}
-use lib.Dec.{eqb}
+use lib.Dec.{eqb, ltb}
 use lib.ListN.{length, getD, take, drop, set, length-set, drop-of-length-le, length-drop}
 use lib.Seq.{drop-cons, sets, take-all, set-out, drop-set-lt, getD-set-same}
-use Rattle.text.specs.Text.{both, digitOf, allHex, hexGood, octetsOf, wordEnd, sameText, glyphOf, hexText, decimalOnto}
+use Rattle.text.specs.Text.{pick, both, digitOf, allHex, hexGood, octetsOf, wordEnd, sameText, glyphOf, hexText, decimalOnto, decimal}
 use Rattle.text.specs.Page.{Page, page, put, wrote, Writes}
 
 -- the front of what is left
@@ -144,3 +144,26 @@ digit-last l x e =
 -- a part up to the end
 pub part-all : (l : List ℕ) (a n : ℕ) → length l ≡ n → take (n - a) (drop a l) ≡ drop a l
 part-all l a n e = take-all (n - a) (drop a l) (simp length-drop (omega arith))
+
+-- a prefix of the part that is there
+pub take-min : (n : ℕ) (l : List ℕ) → take (min n (length l)) l ≡ take n l
+take-min zero l = simp unary-clauses
+take-min (suc n) [] = simp unary-clauses
+take-min (suc n) (x ∷ l) = simp unary-clauses (ap (λ (r : List ℕ). x ∷ r) (take-min n l))
+
+pub take-least : (n k : ℕ) (l : List ℕ) → length l ≡ k → take (min n k) l ≡ take n l
+take-least n k l e = subst (λ (j : ℕ). take (min n j) l ≡ take n l) e (take-min n l)
+
+-- how long a number is
+decimal-onto : (k n : ℕ) (s : List ℕ) → length (decimalOnto k n s) ≤ k + length s
+decimal-onto zero n s = omega arith
+decimal-onto (suc k) n s = go (ltb n 10) (decimal-onto k (n / 10) ((48 + n / 10 % 10) ∷ s))
+  where
+    go : (f : Bool) → length (decimalOnto k (n / 10) ((48 + n / 10 % 10) ∷ s)) ≤ k + length ((48 + n / 10 % 10) ∷ s)
+        → length (pick f s (decimalOnto k (n / 10) ((48 + n / 10 % 10) ∷ s))) ≤ suc k + length s
+    go true h = omega arith
+    go false h = omega arith
+
+pub decimal-length : (n : ℕ) → length (decimal n) ≤ 20
+unfolding decimal
+decimal-length n = decimal-onto 19 n ((48 + n % 10) ∷ [])

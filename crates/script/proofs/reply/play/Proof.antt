@@ -1,24 +1,14 @@
 use mathlib.Core.Path.{refl, sym, _∙_}
 use Prim.Native.Nat.{_-_, _≤_}
-use lib.ListN.{length, length-take}
-use Rattle.script.specs.Lines.{heard}
-use Rattle.script.specs.Replies.{answerReply, playReply}
-use Rattle.script.proofs.Hearing.{take-least}
-use lib.ListN.{length-take}
-use native.Mathlib.Nat.{le-trans}
-use lib.Dec.{lit≤}
-use native.Mathlib.Nat.{min-le-left}
-use mathlib.Core.Path.{refl, sym, _∙_}
-use Prim.Native.Nat.{_-_}
-use Rattle.script.specs.Lines.{heard}
-use Rattle.script.specs.Replies.{answerReply, playReply}
-use Rattle.script.proofs.Hearing.{take-least}
-use Rattle.script.proofs.Hearing.{take-least}
-use mathlib.Core.Path.{sym}
-use Prim.Native.Nat.{_-_}
+use native.Mathlib.Nat.{le-trans, min-le-left}
 use native.Mathlib.Omega.{arith}
+use lib.Dec.{lit≤}
+use lib.ListN.{length, take, length-take}
 use lib.Seq.{length-take-le}
-use Rattle.script.specs.Lines.{heard}
+use denote.Ref.{now}
+use Rattle.text.proofs.Laws.{take-least}
+use Rattle.asks.specs.Lines.{heard}
+use Rattle.asks.proofs.Hearing.{with-room}
 use Rattle.script.specs.Replies.{answerReply, playReply}
 use borrow.Author.Needs.{needs}
 use Rattle.script.proofs.reply.play.Statement.{statement}
@@ -27,11 +17,11 @@ use Rattle.script.proofs.reply.play.Tie as tie
 blank-requires : tie.Need-blank-requires
 blank-requires c κs = search needs
 
-slice-aggregate-call-of : tie.Need-slice-aggregate-call-of
-slice-aggregate-call-of c = search needs
+slice-aggregate-asked : tie.Need-slice-aggregate-asked
+slice-aggregate-asked c = search needs
 
-call-of-requires : tie.Need-call-of-requires
-call-of-requires c κs = search needs
+asked-requires : tie.Need-asked-requires
+asked-requires c κs = search needs
 
 enum-known-told : tie.Need-enum-known-told
 enum-known-told c = search needs
@@ -47,7 +37,11 @@ same-length c = search needs
 
 returns : tie.Need-returns
 unfolding playReply heard
-returns c = rw (← c .before .before .before .before .before .before .before .call-of .ensures, c .before .before .before .before .enum-told .given .1) (c .before .before .refuse-line .ensures)
+returns c =
+    let k = c .before .before .before .before .before .before .before in
+    let line = now (k .before .before .before .before .before .args .line) in
+    let is = with-room (length (k .before .before .blank .result)) line (omega (arith, k .before .before .blank .ensures)) in
+    rw (← is, ← k .asked .ensures, c .before .before .before .before .enum-told .given .1) (c .before .before .refuse-line .ensures)
 
 least-requires : tie.Need-least-requires
 least-requires c κs = search needs
@@ -75,15 +69,27 @@ same-length-2 c = search needs
 
 returns-2 : tie.Need-returns-2
 unfolding playReply heard answerReply
-returns-2 c = rw (← c .before .before .before .before .before .before .before .before .before .before .before .before .before .before .call-of .ensures, c .before .before .before .before .before .before .before .before .before .before .before .told .given .1, ← take-least (c .before .before .before .before .before .before .before .before .before .before .before .told .given .0 .1 .0) 2048 (c .before .before .before .before .before .before .before .before .before .before .before .before .before .before .call-of .last .1 .1 .0) (c .before .before .before .before .before .before .before .before .before .before .before .before .before .before .call-of .kept .1 .1 .0 ∙ sym (c .before .before .before .before .before .before .before .before .before .before .before .before .before .before .before .before .blank .ensures)), ← c .before .before .before .before .before .before .before .before .before .least .ensures .1, ← c .before .before .before .before .before .before .before .answer-by .ensures) (record { bench-is = refl; text-is = c .before .before .put-said .ensures .0; short = le-trans (c .before .before .put-said .ensures .1 (omega (arith, c .before .before .before .before .before .before .before .before .before .least .ensures .0, length-take (c .before .before .before .before .before .before .before .before .before .least .result) (c .before .before .before .before .before .before .before .before .before .before .before .before .before .before .call-of .last .1 .1 .0), min-le-left (c .before .before .before .before .before .before .before .before .before .least .result) (length (c .before .before .before .before .before .before .before .before .before .before .before .before .before .before .call-of .last .1 .1 .0))))) (lit≤ tt) })
+returns-2 c =
+    let a = c .before .before .before .before .before .before .before in
+    let l = a .before .before in
+    let t = l .before .before in
+    let k = t .before .before .before in
+    let line = now (k .before .before .before .before .before .args .line) in
+    let blank = k .before .before .blank in
+    let octets = k .asked .last .1 .0 in
+    let is = with-room (length (blank .result)) line (omega (arith, blank .ensures)) in
+    let whole = k .asked .kept .1 .0 ∙ sym (blank .ensures) in
+    let short : length (take (l .least .result) octets) ≤ 2048 = omega (arith, l .least .ensures .0, length-take (l .least .result) octets, min-le-left (l .least .result) (length octets)) in
+    rw (← is, ← k .asked .ensures, t .told .given .1, ← take-least (t .told .given .0 .1 .0) 2048 octets whole, ← l .least .ensures .1, ← a .answer-by .ensures)
+    (record { bench-is = refl; text-is = c .before .before .put-said .ensures .0; short = le-trans (c .before .before .put-said .ensures .1 short) (lit≤ tt) })
 
 pub play-spec : {M : Type 1} → statement M
 play-spec =
     tie.close
     (tie.spec
     blank-requires
-    slice-aggregate-call-of
-    call-of-requires
+    slice-aggregate-asked
+    asked-requires
     enum-known-told
     enum-told
     refuse-line-requires

@@ -1,6 +1,6 @@
 use mathlib.Core.Path.{refl}
 use Prim.Native.Nat.{_-_, _≤_}
-use Rattle.script.proofs.Short.{refused-length}
+use Rattle.says.proofs.Short.{refused-length}
 use native.Mathlib.Nat.{le-trans}
 use lib.Dec.{lit≤}
 use borrow.Author.Needs.{needs}

@@ -1,0 +1,3 @@
+// What a line of a script asks: its word, and the call that it makes with what follows the word.
+pub mod line;
+pub mod words;
