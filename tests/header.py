@@ -18,8 +18,8 @@ LENT = re.compile(r"&(mut )?(\w+)")
 
 # A number of the header and the constant that it is.
 CONSTANTS = {
-    "frame/src/record.rt": {"ADSC_LINK_OCTETS": "RECORD"},
-    "frame/src/said.rt": {"ADSC_ANSWER_OCTETS": "SAID"},
+    "stored/src/lib.rt": {"ADSC_LINK_OCTETS": "RECORD"},
+    "said/src/lib.rt": {"ADSC_ANSWER_OCTETS": "SAID"},
     "answers/src/answer.rt": {
         "ADSC_START_REQUEST": "START_REQUEST", "ADSC_DATA_REQUEST": "DATA_REQUEST", "ADSC_END_REQUEST": "END_REQUEST", "ADSC_ABORT_REQUEST": "ABORT_REQUEST",
         "ADSC_ABORT_INDICATION": "ABORT_IND", "ADSC_PEER_ABORT": "PEER_ABORT_IND", "ADSC_LATE": "LATE"},
@@ -57,13 +57,13 @@ ARRAYS = [
         "ADSC_A_MINUTES": "t.minutes", "ADSC_A_SECONDS": "t.seconds", "ADSC_A_ACCURACY": "m.accuracy", "ADSC_A_UNITS": "bit(m.units)",
         "ADSC_A_AVOIDANCE": "bit(m.avoidance)", "ADSC_A_ADDRESS": "address"}),
     ("flatdown/src/lib.rt", "few_of", "ADSC_AIR_NUMBERS", {"ADSC_A_KIND": "kind", "ADSC_A_WHAT": "a", "ADSC_A_DETAIL": "b", "ADSC_A_COUNT": "count"}),
-    ("frame/src/said.rt", "said_octets", "ADSC_ANSWER_OCTETS", {
+    ("said/src/lib.rt", "said_octets", "ADSC_ANSWER_OCTETS", {
         "ADSC_ANSWER_REASON": "(w / 16777216) as u8", "ADSC_ANSWER_ACTIONS": "n", "ADSC_ANSWER_SENT": "m"}),
 ]
 
 # Numbers that stand in the text of a function or a type.
 TEXTS = {
-    "frame/src/record.rt": {
+    "stored/src/lib.rt": {
         "ADSC_LINK_SETTINGS": r"let setting = words_at\(s, (\d+)\)", "ADSC_LINK_LEFT": r"let left = words_at\(s, (\d+)\)",
         "ADSC_LINK_DC": r"out\[(\d+)\] = at\[0\]", "ADSC_LINK_EC": r"out\[(\d+)\] = at\[1\]", "ADSC_LINK_PC": r"out\[(\d+)\] = at\[2\]",
         "ADSC_LINK_EM": r"out\[(\d+)\] = at\[3\]", "ADSC_LINK_LI": r"out\[(\d+)\] = li"},

@@ -16,9 +16,10 @@ use Rattle.ground.specs.declared.call.Call.{Call}
 use Rattle.ground.specs.Runs.{answered, Made, reply, after}
 use Rattle.ground.proofs.Promises.{refused-still}
 use Rattle.ground.proofs.Demand3.{after-sound}
-use Rattle.frame.specs.Layout.{linkOf, recordOctets, saidOctets}
-use Rattle.frame.specs.laws.Back.{record-back}
-use Rattle.frame.proofs.Puts.{length-record}
+use Rattle.stored.specs.Layout.{linkOf, recordOctets}
+use Rattle.said.specs.Layout.{saidOctets}
+use Rattle.stored.specs.laws.Back.{record-back}
+use Rattle.stored.proofs.Puts.{length-record}
 use Rattle.frame.specs.Hosting.{Done, left, told, hosted, kept, Hosts, Opening, Makes}
 
 -- "one possible result and one possible content of each lent buffer"

@@ -10,7 +10,8 @@ use Rattle.answers.specs.declared.fresh.Opened.{Opened}
 use Rattle.ground.specs.declared.call.Call.{Call}
 use Rattle.answers.specs.Fresh.{opened}
 use Rattle.ground.specs.Runs.{answered}
-use Rattle.frame.specs.Layout.{linkOf, recordOctets, saidOctets}
+use Rattle.stored.specs.Layout.{linkOf, recordOctets}
+use Rattle.said.specs.Layout.{saidOctets}
 use Rattle.frame.specs.Hosting.{hosted, told, Hosts, nineOf, made, opensInto, Makes}
 
 module _ (call : Call) (octets s o : List ℕ) where

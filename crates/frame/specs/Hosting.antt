@@ -11,7 +11,8 @@ use Rattle.answers.specs.declared.fresh.Opened.{Opened}
 use Rattle.ground.specs.declared.call.Call.{Call}
 use Rattle.answers.specs.Fresh.{opened}
 use Rattle.ground.specs.Runs.{answered, Made}
-use Rattle.frame.specs.Layout.{linkOf, recordOctets, saidOctets}
+use Rattle.stored.specs.Layout.{linkOf, recordOctets}
+use Rattle.said.specs.Layout.{saidOctets}
 
 -- the number that a call gives, and the two buffers after it
 pub record Done : Type 0 where

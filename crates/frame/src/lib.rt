@@ -1,5 +1,2 @@
-// The link record and what a call says as octets of a fixed layout, and the calls on them, for a host that keeps them in its own memory.
-mod put;
-mod record;
-mod said;
+// The calls on the link record and its answer as octets, for a host that keeps them in its own memory.
 pub mod step;

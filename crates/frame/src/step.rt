@@ -1,13 +1,13 @@
 // One call on the record that a host keeps, and a new record.
-use crate::record::RECORD;
-use crate::record::load;
-use crate::record::save;
-use crate::said::SAID;
-use crate::said::put_said;
 use answers::fresh::open;
 use flat::numbers::number;
 use ground::call::Call;
 use ground::call::answer;
+use said::SAID;
+use said::put_said;
+use stored::RECORD;
+use stored::load;
+use stored::save;
 ghost use mathlib.Core.Path.{_≡_};
 ghost use Rattle.frame.specs.Hosting.{hosted, Hosts, nineOf, made, Makes};
 

@@ -1,4 +1,5 @@
 use mathlib.Core.Path.{ap, _∙_}
+use Rattle.stored.proofs.Puts.{saved-record}
 use Rattle.answers.specs.Fresh.{opened}
 use Rattle.frame.proofs.Ways.{not-nine, not-made, no-place, is-made}
 use borrow.Author.Needs.{needs}
@@ -36,7 +37,7 @@ returns-4 : tie.Need-returns-4
 returns-4 c =
     let k = c .before .before .before .before .before .before .before .before .before .before .before .before .args in
     let o = c .before .before .before .before .before .before .before .«open» in
-    is-made (k .settings .now) (k .link .now) (c .before .before .before .before .before .before .before .before .before .if1 .left) (o .result) (o .ensures ∙ ap opened (c .before .before .before .before .before .before .before .before .nine .ensures)) (c .before .before .before .before .before .before .if2 .left) (c .before .before .before .before .before .if3 .left) _ (c .before .before .save .ensures)
+    is-made (k .settings .now) (k .link .now) (c .before .before .before .before .before .before .before .before .before .if1 .left) (o .result) (o .ensures ∙ ap opened (c .before .before .before .before .before .before .before .before .nine .ensures)) (c .before .before .before .before .before .before .if2 .left) (c .before .before .before .before .before .if3 .left) _ (c .before .before .save .ensures ∙ saved-record _ _ (c .before .before .before .before .before .if3 .left))
 
 pub make-spec : {M : Type 1} → statement M
 make-spec =

@@ -1,7 +1,7 @@
 use mathlib.Core.Path.{ap, _∙_}
 use Rattle.link.specs.declared.record.Link.{Link}
+use Rattle.stored.proofs.Puts.{saved-record}
 use Rattle.ground.specs.Runs.{answered}
-use mathlib.Core.Path.{_∙_}
 use Rattle.frame.proofs.Ways.{no-record, refused-so, no-room, accepted}
 use borrow.Author.Needs.{needs}
 use Rattle.frame.proofs.step.step.Statement.{statement}
@@ -50,7 +50,7 @@ returns-4 : tie.Need-returns-4
 returns-4 c =
     let k = c .before .before .before .before .before .before .before .before .before .before .before .before .before .before .before .before .before .before .before .args in
     let a = c .before .before .before .before .before .before .before .before .before .before .before .before .answer in
-    accepted (k .call) (k .octets .now) (k .link .now) (k .out .now) (c .before .before .before .before .before .before .before .before .before .before .before .before .before .before .before .if1 .left) (a .result) (a .ensures ∙ ap (λ (l : Link). answered l (k .call) (k .octets .now)) (c .before .before .before .before .before .before .before .before .before .before .before .before .before .load .ensures)) (c .before .before .before .before .before .before .before .before .before .before .if2 .left) (c .before .before .before .before .before .before .before .before .before .if3 .left) _ _ (c .before .before .before .before .before .before .save .ensures) (c .before .before .put-said .ensures)
+    accepted (k .call) (k .octets .now) (k .link .now) (k .out .now) (c .before .before .before .before .before .before .before .before .before .before .before .before .before .before .before .if1 .left) (a .result) (a .ensures ∙ ap (λ (l : Link). answered l (k .call) (k .octets .now)) (c .before .before .before .before .before .before .before .before .before .before .before .before .before .load .ensures)) (c .before .before .before .before .before .before .before .before .before .before .if2 .left) (c .before .before .before .before .before .before .before .before .before .if3 .left) _ _ (c .before .before .before .before .before .before .save .ensures ∙ saved-record _ _ (c .before .before .before .before .before .before .before .before .before .before .before .before .before .before .before .if1 .left)) (c .before .before .put-said .ensures)
 
 pub step-spec : {M : Type 1} → statement M
 step-spec =
