@@ -7,8 +7,8 @@ use text::put_decimal;
 use text::put_hex;
 use text::put_text;
 ghost use mathlib.Core.Path.{_≡_};
-ghost use Prim.Native.Nat.{_≤_};
-ghost use lib.ListN.{length, take};
+ghost use Prim.Native.Nat.{_-_, _≤_};
+ghost use lib.ListN.{length, take, drop};
 ghost use Rattle.text.specs.Page.{page, Writes};
 ghost use Rattle.says.specs.Says.{spaced, timerText, timerEntry, entryText, restOf, entriesOf, refusedText, saidText};
 
@@ -23,21 +23,23 @@ fn put_spaced(out: &mut [u8], at: usize, s: &[u8]) -> usize
     put_hex(out, a, s)
 }
 
+// A part of a text. A table of words is one text, so that each of them is written by the same call.
+fn put_part(out: &mut [u8], at: usize, s: &[u8], from: usize, to: usize) -> usize
+    requires { ⌜ (from ≤ to) × (to ≤ length (now s)) ⌝ }
+    ensures { λ r. ⌜ Writes (page (now (out .entry)) at) (take (to - from) (drop from (now (s .entry)))) (page (now (out .exit)) r) ⌝ }
+{
+    put_text(out, at, &s[from..to])
+}
+
+// The names of the timers, in watch order.
 fn put_timer(out: &mut [u8], at: usize, t: u8) -> usize
     ensures { λ r. ⌜ Writes (page (now (out .entry)) at) (timerText t) (page (now (out .exit)) r) ⌝ }
 {
-    match t {
-        0 => put_text(out, at, b"DC1"),
-        1 => put_text(out, at, b"DC2"),
-        2 => put_text(out, at, b"EC1"),
-        3 => put_text(out, at, b"EC2"),
-        4 => put_text(out, at, b"PC1"),
-        5 => put_text(out, at, b"PC2"),
-        6 => put_text(out, at, b"PC3"),
-        7 => put_text(out, at, b"EM1"),
-        8 => put_text(out, at, b"EM2"),
-        _ => at,
+    if 8 < t {
+        return at;
     }
+    let from = 3 * t as usize;
+    put_part(out, at, b"DC1DC2EC1EC2PC1PC2PC3EM1EM2", from, from + 3)
 }
 
 fn put_timer_entry(out: &mut [u8], at: usize, c: u8) -> usize
@@ -54,38 +56,24 @@ fn put_timer_entry(out: &mut [u8], at: usize, c: u8) -> usize
     put_timer(out, a, c - START)
 }
 
+// Where the word of each entry up to `late` begins in their text, which `put_entry` has. It ends where the next one begins; the entry 0 has none.
+const BEGINS: [usize; 10] = [0, 0, 10, 19, 27, 37, 41, 52, 67, 72];
+
 // One entry; `sent` goes if it is a request, and `came` are the octets that came with the call.
 fn put_entry(out: &mut [u8], at: usize, c: u8, sent: &[u8], reason: u32, came: &[u8]) -> usize
     ensures { λ r. ⌜ Writes (page (now (out .entry)) at) (entryText c (now (sent .entry)) reason (now (came .entry))) (page (now (out .exit)) r) ⌝ }
 {
+    if LATE < c {
+        return put_timer_entry(out, at, c);
+    }
+    let i = c as usize;
+    let text = b" start-req data-req end-req abort-req ind ind abort  ind peer-abort late";
+    let a = put_part(out, at, text, BEGINS[i], BEGINS[i + 1]);
     match c {
-        START_REQUEST => {
-            let a = put_text(out, at, b" start-req");
-            put_spaced(out, a, sent)
-        }
-        DATA_REQUEST => {
-            let a = put_text(out, at, b" data-req");
-            put_spaced(out, a, sent)
-        }
-        END_REQUEST => {
-            let a = put_text(out, at, b" end-req");
-            put_spaced(out, a, sent)
-        }
-        ABORT_REQUEST => {
-            let a = put_text(out, at, b" abort-req");
-            put_spaced(out, a, sent)
-        }
-        IND => {
-            let a = put_text(out, at, b" ind");
-            put_spaced(out, a, came)
-        }
-        ABORT_IND => {
-            let a = put_text(out, at, b" ind abort ");
-            put_decimal(out, a, reason as u64)
-        }
-        PEER_ABORT_IND => put_text(out, at, b" ind peer-abort"),
-        LATE => put_text(out, at, b" late"),
-        _ => put_timer_entry(out, at, c),
+        START_REQUEST..=ABORT_REQUEST => put_spaced(out, a, sent),
+        IND => put_spaced(out, a, came),
+        ABORT_IND => put_decimal(out, a, reason as u64),
+        _ => a,
     }
 }
 

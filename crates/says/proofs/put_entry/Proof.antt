@@ -1,76 +1,10 @@
-use borrow.Author.Tests.{ne-eqb}
+use borrow.Author.Tests.{ne-eqb, lt-ltb, le-ltb}
+use mathlib.Core.Path.{refl}
 use Prim.Native.Nat.{_-_}
-use Rattle.text.proofs.Pages.{after}
-use Rattle.says.specs.Says.{entryText}
+use Rattle.says.proofs.Tables.{word-in, rest, entry-parts, timer-alone}
 use borrow.Author.Needs.{needs}
 use Rattle.says.proofs.put_entry.Statement.{statement}
 use Rattle.says.proofs.put_entry.Tie as tie
-
-slice-aggregate-put-text : tie.Need-slice-aggregate-put-text
-slice-aggregate-put-text c = search needs
-
-put-text-requires : tie.Need-put-text-requires
-put-text-requires c κs = search needs
-
-put-spaced-requires : tie.Need-put-spaced-requires
-put-spaced-requires c κs = search needs
-
-slice-aggregate-put-text-2 : tie.Need-slice-aggregate-put-text-2
-slice-aggregate-put-text-2 c = search needs
-
-put-text-requires-2 : tie.Need-put-text-requires-2
-put-text-requires-2 c κs = search needs
-
-put-spaced-requires-2 : tie.Need-put-spaced-requires-2
-put-spaced-requires-2 c κs = search needs
-
-slice-aggregate-put-text-3 : tie.Need-slice-aggregate-put-text-3
-slice-aggregate-put-text-3 c = search needs
-
-put-text-requires-3 : tie.Need-put-text-requires-3
-put-text-requires-3 c κs = search needs
-
-put-spaced-requires-3 : tie.Need-put-spaced-requires-3
-put-spaced-requires-3 c κs = search needs
-
-slice-aggregate-put-text-4 : tie.Need-slice-aggregate-put-text-4
-slice-aggregate-put-text-4 c = search needs
-
-put-text-requires-4 : tie.Need-put-text-requires-4
-put-text-requires-4 c κs = search needs
-
-put-spaced-requires-4 : tie.Need-put-spaced-requires-4
-put-spaced-requires-4 c κs = search needs
-
-slice-aggregate-put-text-5 : tie.Need-slice-aggregate-put-text-5
-slice-aggregate-put-text-5 c = search needs
-
-put-text-requires-5 : tie.Need-put-text-requires-5
-put-text-requires-5 c κs = search needs
-
-put-spaced-requires-5 : tie.Need-put-spaced-requires-5
-put-spaced-requires-5 c κs = search needs
-
-slice-aggregate-put-text-6 : tie.Need-slice-aggregate-put-text-6
-slice-aggregate-put-text-6 c = search needs
-
-put-text-requires-6 : tie.Need-put-text-requires-6
-put-text-requires-6 c κs = search needs
-
-put-decimal-requires : tie.Need-put-decimal-requires
-put-decimal-requires c κs = search needs
-
-slice-aggregate-put-text-7 : tie.Need-slice-aggregate-put-text-7
-slice-aggregate-put-text-7 c = search needs
-
-put-text-requires-7 : tie.Need-put-text-requires-7
-put-text-requires-7 c κs = search needs
-
-slice-aggregate-put-text-8 : tie.Need-slice-aggregate-put-text-8
-slice-aggregate-put-text-8 c = search needs
-
-put-text-requires-8 : tie.Need-put-text-requires-8
-put-text-requires-8 c κs = search needs
 
 put-timer-entry-requires : tie.Need-put-timer-entry-requires
 put-timer-entry-requires c κs = search needs
@@ -79,94 +13,96 @@ same-length : tie.Need-same-length
 same-length c = search needs
 
 returns : tie.Need-returns
-unfolding entryText
-returns c = rw (c .before .before .before .before .before .before .before .before .before .match .keys1) (after (c .before .before .before .before .before .before .put-text .ensures) (c .before .before .put-spaced .ensures))
+returns c = rw (timer-alone _ _ _ _ (c .before .before .before .before .if1 .taken)) (c .before .before .put-timer-entry .ensures)
+
+mul-put-part : tie.Need-mul-put-part
+mul-put-part c = search needs
+
+array-read-put-part : tie.Need-array-read-put-part
+array-read-put-part c = search needs
+
+add-put-part : tie.Need-add-put-part
+add-put-part c = search needs
+
+mul-put-part-2 : tie.Need-mul-put-part-2
+mul-put-part-2 c = search needs
+
+array-read-put-part-2 : tie.Need-array-read-put-part-2
+array-read-put-part-2 c = search needs
+
+put-part-requires : tie.Need-put-part-requires
+put-part-requires c κs = word-in _ (c .before .before .before .if1 .left)
+
+put-spaced-requires : tie.Need-put-spaced-requires
+put-spaced-requires c κs = search needs
+
+put-decimal-requires : tie.Need-put-decimal-requires
+put-decimal-requires c κs = search needs
+
+put-spaced-requires-2 : tie.Need-put-spaced-requires-2
+put-spaced-requires-2 c κs = search needs
 
 same-length-2 : tie.Need-same-length-2
 same-length-2 c = search needs
 
 returns-2 : tie.Need-returns-2
-unfolding entryText
-returns-2 c = rw (c .before .before .before .before .before .before .before .before .before .match .keys2) (after (c .before .before .before .before .before .before .put-text2 .ensures) (c .before .before .put-spaced2 .ensures))
+unfolding rest
+returns-2 c =
+    let p = c .before .before .before .before .before .before .before in
+    entry-parts _ _ _ _ (p .before .before .before .before .if1 .left) (p .put-part .ensures) (rw (c .before .before .before .before .match .keys1) (c .before .before .put-spaced .ensures))
 
 same-length-3 : tie.Need-same-length-3
 same-length-3 c = search needs
 
 returns-3 : tie.Need-returns-3
-unfolding entryText
-returns-3 c = rw (c .before .before .before .before .before .before .before .before .before .match .keys3) (after (c .before .before .before .before .before .before .put-text3 .ensures) (c .before .before .put-spaced3 .ensures))
+unfolding rest
+returns-3 c =
+    let p = c .before .before .before .before .before .before .before in
+    entry-parts _ _ _ _ (p .before .before .before .before .if1 .left) (p .put-part .ensures) (rw (c .before .before .before .before .match .keys2) (c .before .before .put-decimal .ensures))
 
 same-length-4 : tie.Need-same-length-4
 same-length-4 c = search needs
 
 returns-4 : tie.Need-returns-4
-unfolding entryText
-returns-4 c = rw (c .before .before .before .before .before .before .before .before .before .match .keys4) (after (c .before .before .before .before .before .before .put-text4 .ensures) (c .before .before .put-spaced4 .ensures))
+unfolding rest
+returns-4 c =
+    let p = c .before .before .before .before .before .before .before .before .before in
+    entry-parts _ _ _ _ (p .before .before .before .before .if1 .left) (p .put-part .ensures) (rw (ne-eqb _ 5 (c .before .before .before .before .before .before .match .rest .0 .1), ne-eqb _ 6 (c .before .before .before .before .before .before .match .rest .1), le-ltb _ 1 (c .before .before .before .before .before .if2 .left), lt-ltb _ 5 (c .before .before .before .before .if3 .taken)) (c .before .before .put-spaced2 .ensures))
 
 same-length-5 : tie.Need-same-length-5
 same-length-5 c = search needs
 
 returns-5 : tie.Need-returns-5
-unfolding entryText
-returns-5 c = rw (c .before .before .before .before .before .before .before .before .before .match .keys5) (after (c .before .before .before .before .before .before .put-text5 .ensures) (c .before .before .put-spaced5 .ensures))
+unfolding rest
+returns-5 c =
+    let p = c .before .before .before .before in
+    entry-parts _ _ _ _ (p .before .before .before .before .if1 .left) (p .put-part .ensures) (rw (ne-eqb _ 5 (c .before .match .rest .0 .1), ne-eqb _ 6 (c .before .match .rest .1), lt-ltb _ 1 (c .if2 .taken)) (record { is = refl }))
 
 same-length-6 : tie.Need-same-length-6
 same-length-6 c = search needs
 
 returns-6 : tie.Need-returns-6
-unfolding entryText
-returns-6 c = rw (c .before .before .before .before .before .before .before .before .before .match .keys6) (after (c .before .before .before .before .before .before .put-text6 .ensures) (c .before .before .put-decimal .ensures))
-
-same-length-7 : tie.Need-same-length-7
-same-length-7 c = search needs
-
-returns-7 : tie.Need-returns-7
-unfolding entryText
-returns-7 c = rw (c .before .before .before .before .before .match .keys7) (c .before .before .put-text7 .ensures)
-
-same-length-8 : tie.Need-same-length-8
-same-length-8 c = search needs
-
-returns-8 : tie.Need-returns-8
-unfolding entryText
-returns-8 c = rw (c .before .before .before .before .before .match .keys8) (c .before .before .put-text8 .ensures)
-
-same-length-9 : tie.Need-same-length-9
-same-length-9 c = search needs
-
-returns-9 : tie.Need-returns-9
-unfolding entryText
-returns-9 c = simp (ne-eqb _ 1 (c .before .before .before .before .match .rest .0 .0 .0 .0 .0 .0 .0 .1), ne-eqb _ 2 (c .before .before .before .before .match .rest .0 .0 .0 .0 .0 .0 .1), ne-eqb _ 3 (c .before .before .before .before .match .rest .0 .0 .0 .0 .0 .1), ne-eqb _ 4 (c .before .before .before .before .match .rest .0 .0 .0 .0 .1), ne-eqb _ 5 (c .before .before .before .before .match .rest .0 .0 .0 .1), ne-eqb _ 6 (c .before .before .before .before .match .rest .0 .0 .1), ne-eqb _ 7 (c .before .before .before .before .match .rest .0 .1), ne-eqb _ 8 (c .before .before .before .before .match .rest .1)) (c .before .before .put-timer-entry .ensures)
+unfolding rest
+returns-6 c =
+    let p = c .before .before .before .before .before in
+    entry-parts _ _ _ _ (p .before .before .before .before .if1 .left) (p .put-part .ensures) (rw (ne-eqb _ 5 (c .before .before .match .rest .0 .1), ne-eqb _ 6 (c .before .before .match .rest .1), le-ltb _ 1 (c .before .if2 .left), le-ltb _ 5 (c .if3 .left)) (record { is = refl }))
 
 pub put-entry-spec : {M : Type 1} → statement M
 put-entry-spec =
     tie.close
     (tie.spec
-    slice-aggregate-put-text
-    put-text-requires
-    put-spaced-requires
-    slice-aggregate-put-text-2
-    put-text-requires-2
-    put-spaced-requires-2
-    slice-aggregate-put-text-3
-    put-text-requires-3
-    put-spaced-requires-3
-    slice-aggregate-put-text-4
-    put-text-requires-4
-    put-spaced-requires-4
-    slice-aggregate-put-text-5
-    put-text-requires-5
-    put-spaced-requires-5
-    slice-aggregate-put-text-6
-    put-text-requires-6
-    put-decimal-requires
-    slice-aggregate-put-text-7
-    put-text-requires-7
-    slice-aggregate-put-text-8
-    put-text-requires-8
     put-timer-entry-requires
     same-length
     returns
+    mul-put-part
+    array-read-put-part
+    add-put-part
+    mul-put-part-2
+    array-read-put-part-2
+    put-part-requires
+    put-spaced-requires
+    put-decimal-requires
+    put-spaced-requires-2
     same-length-2
     returns-2
     same-length-3
@@ -176,10 +112,4 @@ put-entry-spec =
     same-length-5
     returns-5
     same-length-6
-    returns-6
-    same-length-7
-    returns-7
-    same-length-8
-    returns-8
-    same-length-9
-    returns-9)
+    returns-6)
