@@ -78,6 +78,7 @@ via c to from ok left = record {
   back = via-back c to from ok left;
 }
 
+-- another value for the same bits, with nothing more to judge
 abbrev pub iso : {A B : Type 0} (c : Codec A) (to : A → B) (from : B → A) → ((a : A) → from (to a) ≡ a) → Codec B
 iso c to from left = via c to from (λ b. 0) (λ a g s. (refl, left a))
 
@@ -117,6 +118,7 @@ absent z = record {
 abbrev pub Null : Type 0
 Null = record {}
 
+-- the part that takes no bits
 abbrev pub null : Codec Null
 null = absent (record {})
 
@@ -140,6 +142,7 @@ numField lo hi = record {
   read = λ v l g. num-read lo hi v g;
 }
 
+-- a whole number of lo..hi
 abbrev pub num : ℕ → ℕ → Codec ℕ
 num lo hi = field (numField lo hi)
 
@@ -156,6 +159,7 @@ runField w = record {
   read = λ v l g. (run-read w v l g, refl);
 }
 
+-- a number of w bits
 abbrev pub run : ℕ → Codec ℕ
 run w = field (runField w)
 
@@ -172,6 +176,7 @@ flagField = record {
   read = λ v h g. (refl, flag-read v h);
 }
 
+-- a truth value
 abbrev pub flag : Codec Bool
 flag = field flagField
 
@@ -188,9 +193,11 @@ extensionField = record {
   read = λ v h g. (refl, zero-bit v 8 g);
 }
 
+-- an extension bit
 abbrev pub extension : Codec Null
 extension = field extensionField
 
+-- what a mark * stands before
 abbrev pub ext : {A : Type 0} → Codec A → Codec A
 ext c = iso (pair extension c) (λ p. p .1) (λ a. (record {}, a)) (λ p. refl)
 
@@ -207,6 +214,7 @@ signedField k hi = record {
   read = λ v l g. raised-read k hi v g;
 }
 
+-- a number of -k..hi
 abbrev pub signed : ℕ → ℕ → Codec Signed
 signed k hi = field (signedField k hi)
 
@@ -218,6 +226,7 @@ maskBad carried need v = first (unless (eqb (bitAnd v carried) v) 10) (unless (n
 unfoldable pub has : ℕ → ℕ → Bool
 has w v = not (eqb (bitAnd v w) 0)
 
+-- the presence bits of `all`
 abbrev pub mask : ℕ → ℕ → Bool → Codec ℕ
 mask all carried need = only (num 0 all) (maskBad carried need)
 
@@ -231,11 +240,13 @@ unfoldable pub altCodec : {E P : Type 0} (tag : E → ℕ) (i : ℕ) (c : Codec 
     → ((p : P) → tag (make p) ≡ i) → ((p : P) → get (make p) ≡ p) → Codec E
 altCodec tag i c make get t g = via c make get (λ e. unless (eqb (tag e) i) 5) (λ p h s. (rw (eq-eqb (tag (make p)) i (t p)), g p))
 
+-- its index is the only tag that it writes
 pub alt-own : {E P : Type 0} (tag : E → ℕ) (i : ℕ) (c : Codec P) (make : P → E) (get : E → P)
     (t : (p : P) → tag (make p) ≡ i) (g : (p : P) → get (make p) ≡ p) (e : E) → altCodec tag i c make get t g .chk e ≡ 0 → tag e ≡ i
 unfolding altCodec via
 alt-own tag i c make get t g e h = eqb-true (tag e) i (unless-true (eqb (tag e) i) 4 (first-0 (unless (eqb (tag e) i) 5) (c .chk (get e)) h))
 
+-- the alternative of index i
 abbrev pub alt : {E P : Type 0} (tag : E → ℕ) (i : ℕ) (c : Codec P) (make : P → E) (get : E → P)
     → ((p : P) → tag (make p) ≡ i) → ((p : P) → get (make p) ≡ p) → Alt tag i
 alt tag i c make get t g = record { codec = altCodec tag i c make get t g; own = alt-own tag i c make get t g }
@@ -244,10 +255,12 @@ alt tag i c make get t g = record { codec = altCodec tag i c make get t g; own =
 unfoldable pub neverCodec : {E : Type 0} → E → Codec E
 neverCodec z = only (absent z) (λ e. 8)
 
+-- nothing is written by it
 pub never-own : {E : Type 0} (z : E) (n : ℕ) (e : E) → neverCodec z .chk e ≡ 0 → n ≡ 0
 unfolding neverCodec only absent
 never-own z n e h = absurd (omega arith)
 
+-- the alternative of an index that is not used
 abbrev pub unused : {E : Type 0} (tag : E → ℕ) (i : ℕ) → E → Alt tag i
 unused tag i z = record { codec = neverCodec z; own = λ e h. never-own z (tag e) e h ∙ sym (never-own z i e h) }
 
@@ -255,6 +268,7 @@ unused tag i z = record { codec = neverCodec z; own = λ e h. never-own z (tag e
 abbrev pub index : ℕ → Codec ℕ
 index top = num 0 top
 
+-- the index that was read is the tag of what was read behind it
 pub choice-left : {E : Type 0} (top : ℕ) (tag : E → ℕ) (alts : (i : ℕ) → Alt tag i) (p : ℕ × E) → dep (index top) (λ i. alts i .codec) .chk p ≡ 0
     → _≡_ {A = ℕ × E} (tag (p .1), p .1) p
 unfolding dep field
@@ -277,17 +291,21 @@ countField = record {
   read = λ n l g. (g, refl);
 }
 
+-- the count of a list
 abbrev pub count : Codec ℕ
 count = field countField
 
+-- a list with nothing in it
 abbrev pub isNil : {A : Type 0} → List A → Bool
 isNil [] = true
 isNil (a ∷ l) = false
 
+-- the first of a list, z where there is none
 abbrev pub headOr : {A : Type 0} → A → List A → A
 headOr z [] = z
 headOr z (a ∷ l) = a
 
+-- what follows the first
 abbrev pub rest : {A : Type 0} → List A → List A
 rest [] = []
 rest (a ∷ l) = l
@@ -297,6 +315,7 @@ unfoldable pub vec : {A : Type 0} → Codec A → ℕ → Codec (List A)
 vec c zero = via null (λ u. []) (λ l. record {}) (λ l. unless (isNil l) 5) (λ u h s. (refl, refl))
 vec c (suc n) = via (pair c (vec c n)) (λ p. p .0 ∷ p .1) (λ l. (headOr (c .none) l, rest l)) (λ l. unless (not (isNil l)) 5) (λ p h s. (refl, refl))
 
+-- only n values are written as n
 pub vec-length : {A : Type 0} (c : Codec A) (n : ℕ) (l : List A) → vec c n .chk l ≡ 0 → length l ≡ n
 unfolding vec via dep
 vec-length c zero [] h = refl
