@@ -1,10 +1,8 @@
 -- The abort rule, and the other calls that stop everything.
 use mathlib.Core.Bool.{Bool}
-use mathlib.Core.List.{List, [], _++_}
-use Prim.Native.Nat.{ℕ, zero, suc, _+_}
-use lib.Dec.{leb}
-use lib.ListN.{getD}
-use Rattle.moves.specs.Acts.{pushed, one}
+use mathlib.Core.List.{List}
+use Prim.Native.Nat.{ℕ}
+use Rattle.moves.specs.Acts.{pushed}
 use Rattle.link.specs.Record.{quiet, withLi}
 use Rattle.link.specs.Clock.{stopped}
 use Rattle.link.specs.declared.record.Link.{Link}
@@ -13,11 +11,6 @@ use Rattle.mail.specs.Sent.{sent, letter}
 use Rattle.answers.specs.Answers.{ABORT-REQUEST, ABORT-IND, tells, allowed}
 use Rattle.answers.specs.declared.answer.Answer.{Answer}
 use Rattle.answers.specs.declared.abort.Ending.{Ending}
-
--- the stop entries of the running timers below t, in watch order. With a good link they are at most four, so none is dropped: `stops-whole`, proofs/Stops.antt
-unfoldable pub stopsOf : ℕ → List ℕ → List ℕ
-stopsOf zero left = []
-stopsOf (suc t) left = stopsOf t left ++ one (leb 1 (getD left t 0)) (16 + t)
 
 -- "Stop entries for all running timers, an expired one too, in watch order, abort request with ground provider abort n, abort indication n, all IDLE, LI too"
 unfoldable pub aborted : Link → ℕ → Answer

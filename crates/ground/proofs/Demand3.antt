@@ -24,11 +24,11 @@ use Rattle.link.proofs.Laws.{below-fails}
 use Rattle.ground.proofs.Fits.{event-no-clock}
 use Rattle.ground.proofs.Keeps.{Shaped, Sound, good-states, good-timer, timer-parts, left-after, left-later, quiet-good, quiet-shaped, later-good, later-shaped, li-good, li-shaped, went-sound}
 use Rattle.answers.specs.Answers.{tells}
-use Rattle.answers.specs.Aborts.{stopsOf, aborted, closed}
+use Rattle.answers.specs.Aborts.{aborted, closed}
 use Rattle.answers.specs.Fresh.{settingOk, fresh}
 use Rattle.answers.specs.Clock.{elapsed}
 use Rattle.arrivals.specs.Arrivals.{lateData}
-use Rattle.ground.specs.Runs.{answered, Made, reply, after, member, touches, seconds, total, Untouched, Watched}
+use Rattle.ground.specs.Runs.{stopsOf, answered, Made, reply, after, member, touches, seconds, total, Untouched, Watched}
 use Rattle.answers.specs.declared.answer.Answer.{Answer}
 use Rattle.ground.specs.declared.call.Call.the-variants.{Elapse}
 use Rattle.answers.proofs.Laws.{fresh-good}

@@ -19,8 +19,8 @@ use Rattle.link.specs.declared.record.Link.{Link}
 use Rattle.ground.proofs.Fits.{states-test, all-states}
 use Rattle.executor.proofs.Pushes.{push-acts}
 use Rattle.ground.proofs.Keeps.{Sound, good-states, good-timer, timer-parts}
-use Rattle.answers.specs.Aborts.{stopsOf, aborted, closed}
-use Rattle.ground.specs.Runs.{member}
+use Rattle.answers.specs.Aborts.{aborted, closed}
+use Rattle.ground.specs.Runs.{stopsOf, member}
 use Rattle.answers.specs.declared.abort.Ending.{Ending}
 
 -- how many numbers below n pass a test

@@ -1,12 +1,13 @@
 -- Every call under one name, and sequences of calls on one link.
 use mathlib.Core.Bool.{Bool, true, false}
 use mathlib.Core.Path.{_≡_}
-use mathlib.Core.List.{List, [], _∷_}
-use Prim.Native.Nat.{ℕ, _+_, _≤_}
-use lib.Dec.{eqb}
+use mathlib.Core.List.{List, [], _∷_, _++_}
+use Prim.Native.Nat.{ℕ, zero, suc, _+_, _≤_}
+use lib.Dec.{eqb, leb}
 use lib.ListN.{getD}
 use Rattle.moves.specs.Tests.{either, pick}
 use Rattle.moves.specs.Watch.{runs}
+use Rattle.moves.specs.Acts.{one}
 use Rattle.link.specs.declared.record.Link.{Link}
 use Rattle.answers.specs.Clock.{elapsed}
 use Rattle.user.specs.Requests.{requested, userAborted}
@@ -40,6 +41,11 @@ reply l c = answered l (c .call) (c .octets)
 unfoldable pub after : Link → List Made → Link
 after l [] = l
 after l (c ∷ cs) = after (reply l c .link) cs
+
+-- the stop entries of the running timers below t, in watch order. With a good link they are at most four, so none is dropped: `stops-whole`, proofs/Stops.antt
+unfoldable pub stopsOf : ℕ → List ℕ → List ℕ
+stopsOf zero left = []
+stopsOf (suc t) left = stopsOf t left ++ one (leb 1 (getD left t 0)) (16 + t)
 
 abbrev pub member : ℕ → List ℕ → Bool
 member x [] = false
