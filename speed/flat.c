@@ -1,5 +1,5 @@
 /* asn1c's values as the flat numbers of the archive. */
-#include "bench.h"
+#include "speed.h"
 
 static void angle(uint32_t *n, long sign, long degrees, long minutes, long tenths)
 {

@@ -1,6 +1,6 @@
 /* Calls on a link: opened, asked for a periodic contract, confirmed; then a second passes, and a plain periodic report comes. */
 #include <string.h>
-#include "bench.h"
+#include "speed.h"
 
 enum { LINK = ADSC_LINK_OCTETS, ANSWER = ADSC_ANSWER_OCTETS, SETTINGS = 9 };
 

@@ -1,7 +1,7 @@
 /* How deep a call reaches: it runs on a painted stack, and the lowest octet that it wrote is sought. */
 #include <string.h>
 #include <ucontext.h>
-#include "bench.h"
+#include "speed.h"
 
 enum { ROOM = 1 << 14, PAINT = 0xa5 };
 

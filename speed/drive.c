@@ -12,7 +12,7 @@
 #include <sys/syscall.h>
 #include <time.h>
 #include <unistd.h>
-#include "bench.h"
+#include "speed.h"
 
 enum { PDUS = 4000, GROUPS = 20, WORKS = 200, REPEATS = 101, FILL = 0xa5, MAGIC = 0x5eed };
 
