@@ -18,14 +18,14 @@ LENT = re.compile(r"&(mut )?(\w+)")
 
 # A number of the header and the constant that it is.
 CONSTANTS = {
-    "stored/src/lib.rt": {"ADSC_LINK_OCTETS": "RECORD"},
-    "said/src/lib.rt": {"ADSC_ANSWER_OCTETS": "SAID"},
-    "answers/src/answer.rt": {
+    "host_record/src/record.rt": {"ADSC_LINK_OCTETS": "RECORD"},
+    "host_record/src/answer.rt": {"ADSC_ANSWER_OCTETS": "SAID"},
+    "ground_answer/src/answer.rt": {
         "ADSC_START_REQUEST": "START_REQUEST", "ADSC_DATA_REQUEST": "DATA_REQUEST", "ADSC_END_REQUEST": "END_REQUEST", "ADSC_ABORT_REQUEST": "ABORT_REQUEST",
         "ADSC_ABORT_INDICATION": "ABORT_IND", "ADSC_PEER_ABORT": "PEER_ABORT_IND", "ADSC_LATE": "LATE"},
     "link/src/actions.rt": {"ADSC_INDICATION": "IND", "ADSC_STOP_TIMER": "STOP", "ADSC_START_TIMER": "START"},
     "link/src/record.rt": {f"ADSC_LI_{state}": f"LI_{state}" for state in ("IDLE", "START", "ACTIVE", "END")},
-    "moves/src/names.rt": {
+    "ground_tables/src/names.rt": {
         **{f"ADSC_{timer}": timer for timer in ("DC1", "DC2", "EC1", "EC2", "PC1", "PC2", "PC3", "EM1", "EM2")},
         **{f"ADSC_{module}_IDLE": "IDLE" for module in ("DC", "EC", "PC", "EM")},
         **{f"ADSC_{module}_{state}": state for module in ("EC", "PC") for state in ("START_PENDING", "PENDING", "ACTIVE", "CANCEL")},
@@ -34,11 +34,11 @@ CONSTANTS = {
 
 # The arms of a match on a kind: the number of each variant.
 KINDS = {
-    "flatup/src/lib.rt": ("Ground", {
+    "host_numbers/src/uplink.rt": ("Ground", {
         "ADSC_CANCEL_ALL": "CancelAll", "ADSC_CANCEL_CONTRACT": "CancelContract", "ADSC_CANCEL_EMERGENCY_ACK": "CancelEmergencyAck",
         "ADSC_DEMAND_CONTRACT": "DemandContract", "ADSC_EVENT_CONTRACT": "EventContract", "ADSC_MODIFY_EMERGENCY": "ModifyEmergency",
         "ADSC_PERIODIC_CONTRACT": "PeriodicContract", "ADSC_GROUND_ABORT": "Abort"}),
-    "flatdown/src/lib.rt": ("Air", {
+    "host_numbers/src/downlink.rt": ("Air", {
         "ADSC_CANCEL_EMERGENCY": "CancelEmergency", "ADSC_DEMAND_REPORT": "Demand", "ADSC_EMERGENCY_REPORT": "Emergency", "ADSC_EVENT_REPORT": "Event",
         "ADSC_NEGATIVE_ACK": "Negative", "ADSC_NONCOMPLIANCE": "Noncompliance", "ADSC_PERIODIC_REPORT": "Periodic", "ADSC_POSITIVE_ACK": "Positive",
         "ADSC_AIR_ABORT": "Abort"}),
@@ -46,29 +46,29 @@ KINDS = {
 
 # The array that a function ends with: its size, and the place of each entry that has a name.
 ARRAYS = [
-    ("flatup/src/lib.rt", "flat_periodic", "ADSC_GROUND_NUMBERS", {
+    ("host_numbers/src/uplink.rt", "flat_periodic", "ADSC_GROUND_NUMBERS", {
         "ADSC_G_KIND": "6", "ADSC_G_WHAT": "a.elements", "ADSC_G_SCALE": "scale", "ADSC_G_INTERVAL": "times", "ADSC_G_ADDRESS": "a.address",
         "ADSC_G_PROFILE": "a.profile", "ADSC_G_GROUND_VECTOR": "a.ground", "ADSC_G_AIR_VECTOR": "a.air", "ADSC_G_WEATHER": "a.weather"}),
-    ("flatfix/src/lib.rt", "flat_fix", "ADSC_AIR_NUMBERS", {
+    ("host_numbers/src/reports.rt", "flat_fix", "ADSC_AIR_NUMBERS", {
         "ADSC_A_KIND": "kind", "ADSC_A_WHAT": "bit(ack)", "ADSC_A_DETAIL": "event", "ADSC_A_ELEMENTS": "elements", "ADSC_A_SOUTH": "bit(la.minus)",
         "ADSC_A_LATITUDE": "la.degrees", "ADSC_A_LATITUDE_MINUTES": "la.minutes", "ADSC_A_LATITUDE_TENTHS": "la.tenths", "ADSC_A_WEST": "bit(lo.minus)",
         "ADSC_A_LONGITUDE": "lo.degrees", "ADSC_A_LONGITUDE_MINUTES": "lo.minutes", "ADSC_A_LONGITUDE_TENTHS": "lo.tenths", "ADSC_A_LEVEL": "complement(level)",
         "ADSC_A_YEAR": "t.year", "ADSC_A_MONTH": "t.month", "ADSC_A_DAY": "t.day", "ADSC_A_HAS_SECONDS": "bit(t.has_seconds)", "ADSC_A_HOURS": "t.hours",
         "ADSC_A_MINUTES": "t.minutes", "ADSC_A_SECONDS": "t.seconds", "ADSC_A_ACCURACY": "m.accuracy", "ADSC_A_UNITS": "bit(m.units)",
         "ADSC_A_AVOIDANCE": "bit(m.avoidance)", "ADSC_A_ADDRESS": "address"}),
-    ("flatdown/src/lib.rt", "few_of", "ADSC_AIR_NUMBERS", {"ADSC_A_KIND": "kind", "ADSC_A_WHAT": "a", "ADSC_A_DETAIL": "b", "ADSC_A_COUNT": "count"}),
-    ("said/src/lib.rt", "said_octets", "ADSC_ANSWER_OCTETS", {
+    ("host_numbers/src/downlink.rt", "few_of", "ADSC_AIR_NUMBERS", {"ADSC_A_KIND": "kind", "ADSC_A_WHAT": "a", "ADSC_A_DETAIL": "b", "ADSC_A_COUNT": "count"}),
+    ("host_record/src/answer.rt", "said_octets", "ADSC_ANSWER_OCTETS", {
         "ADSC_ANSWER_REASON": "(w / 16777216) as u8", "ADSC_ANSWER_ACTIONS": "n", "ADSC_ANSWER_SENT": "m"}),
 ]
 
 # Numbers that stand in the text of a function or a type.
 TEXTS = {
-    "stored/src/lib.rt": {
+    "host_record/src/record.rt": {
         "ADSC_LINK_SETTINGS": r"let setting = words_at\(s, (\d+)\)", "ADSC_LINK_LEFT": r"let left = words_at\(s, (\d+)\)",
         "ADSC_LINK_DC": r"out\[(\d+)\] = at\[0\]", "ADSC_LINK_EC": r"out\[(\d+)\] = at\[1\]", "ADSC_LINK_PC": r"out\[(\d+)\] = at\[2\]",
         "ADSC_LINK_EM": r"out\[(\d+)\] = at\[3\]", "ADSC_LINK_LI": r"out\[(\d+)\] = li"},
     "link/src/record.rt": {"ADSC_TIMERS": r"pub setting: \[u32; (\d+)\]", "ADSC_SECONDS_MOST": r"if (\d+) < setting"},
-    "flat/src/copy.rt": {"ADSC_LIST_OCTETS": r"fn items_of\(.*\) -> \[u8; (\d+)\]"},
+    "host_numbers/src/copy.rt": {"ADSC_LIST_OCTETS": r"fn items_of\(.*\) -> \[u8; (\d+)\]"},
 }
 
 

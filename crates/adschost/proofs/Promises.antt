@@ -5,20 +5,20 @@ use mathlib.Core.List.{List}
 use lib.ListN.{length, getD}
 use lib.Signed.{mag}
 use Rattle.per.specs.Pdu.{encode, got, readPdu}
-use Rattle.pen.specs.Writing.{Delivered}
-use Rattle.lists.specs.declared.Listed.{Listed}
-use Rattle.uplink.specs.declared.Ground.{Ground}
-use Rattle.uplink.specs.Table.{groundC}
-use Rattle.downlink.specs.declared.Air.{Air}
-use Rattle.downlink.specs.declared.Air.the-variants as air
-use Rattle.downlink.specs.declared.AirPdu.{AirPdu}
-use Rattle.downlink.specs.Table.{airC}
-use Rattle.downlink.proofs.Norms.{air-norm}
+use Rattle.per.specs.Writing.{Delivered}
+use Rattle.pdu_parts.specs.declared.lists.Listed.{Listed}
+use Rattle.pdu.specs.declared.uplink.Ground.{Ground}
+use Rattle.pdu.specs.UplinkTable.{groundC}
+use Rattle.pdu.specs.declared.downlink.Air.{Air}
+use Rattle.pdu.specs.declared.downlink.Air.the-variants as air
+use Rattle.pdu.specs.declared.downlink.AirPdu.{AirPdu}
+use Rattle.pdu.specs.DownlinkTable.{airC}
+use Rattle.pdu.proofs.DownlinkNorms.{air-norm}
 use Rattle.pdu.proofs.Promises.{air-read, ground-read}
-use Rattle.flatup.specs.Grounds.{flatGround, groundAt}
-use Rattle.flatdown.specs.Airs.{flatAir, airAt}
-use Rattle.flatup.specs.laws.Back.{ground-back}
-use Rattle.flatdown.specs.laws.Back.{levelIn, listFor, pdu-back}
+use Rattle.host_numbers.specs.Grounds.{flatGround, groundAt}
+use Rattle.host_numbers.specs.Airs.{flatAir, airAt}
+use Rattle.host_numbers.specs.laws.FlatupBack.{ground-back}
+use Rattle.host_numbers.specs.laws.FlatdownBack.{levelIn, listFor, pdu-back}
 use Rattle.adschost.specs.Flatness.{AirShown, ShowsAir, GroundShown, ShowsGround, WritesFlat}
 
 -- "one possible result and one possible content of each lent buffer"

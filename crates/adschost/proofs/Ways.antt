@@ -6,17 +6,17 @@ use lib.ListN.{length}
 use lib.Seq.{sets}
 use borrow.Author.Tests.{lt-ltb, le-ltb}
 use Rattle.per.specs.Codec.{Codec}
-use Rattle.pen.specs.declared.Written.{Written}
-use Rattle.pen.specs.Writing.{writePdu}
+use Rattle.per.specs.declared.pen.Written.{Written}
+use Rattle.per.specs.Writing.{writePdu}
 use Rattle.pdu.specs.Answers.{Sends}
-use Rattle.uplink.specs.declared.Ground.{Ground}
-use Rattle.downlink.specs.declared.Air.{Air}
+use Rattle.pdu.specs.declared.uplink.Ground.{Ground}
+use Rattle.pdu.specs.declared.downlink.Air.{Air}
 use Rattle.pdu.specs.declared.AirReading.{AirReading}
 use Rattle.pdu.specs.declared.AirAnswer.the-variants as air
 use Rattle.pdu.specs.declared.GroundAnswer.{GroundAnswer}
 use Rattle.pdu.specs.declared.GroundAnswer.the-variants as ground
-use Rattle.flatup.specs.Grounds.{flatGround}
-use Rattle.flatdown.specs.Airs.{flatAir}
+use Rattle.host_numbers.specs.Grounds.{flatGround}
+use Rattle.host_numbers.specs.Airs.{flatAir}
 use Rattle.adschost.specs.Flatness.{airShown, ShowsAir, groundShown, ShowsGround, numberOf, lengthOf, WritesFlat}
 
 -- ---- reading: what `decode_air` gave is the reading that the definition names

@@ -5,18 +5,18 @@ use Prim.Native.Nat.{ℕ}
 use lib.Dec.{ltb}
 use lib.ListN.{length}
 use lib.Seq.{sets}
-use Rattle.moves.specs.Tests.{pick}
-use Rattle.pen.specs.declared.Written.{Written}
-use Rattle.pen.specs.declared.Written.the-variants as written
-use Rattle.pen.specs.Writing.{Delivered}
-use Rattle.lists.specs.declared.Listed.{Listed}
+use Rattle.ground_tables.specs.Tests.{pick}
+use Rattle.per.specs.declared.pen.Written.{Written}
+use Rattle.per.specs.declared.pen.Written.the-variants as written
+use Rattle.per.specs.Writing.{Delivered}
+use Rattle.pdu_parts.specs.declared.lists.Listed.{Listed}
 use Rattle.pdu.specs.declared.AirAnswer.{AirAnswer}
 use Rattle.pdu.specs.declared.AirAnswer.the-variants as air
 use Rattle.pdu.specs.declared.AirReading.{AirReading}
 use Rattle.pdu.specs.declared.GroundAnswer.{GroundAnswer}
 use Rattle.pdu.specs.declared.GroundAnswer.the-variants as ground
-use Rattle.flatup.specs.Grounds.{flatGround}
-use Rattle.flatdown.specs.Airs.{flatAir}
+use Rattle.host_numbers.specs.Grounds.{flatGround}
+use Rattle.host_numbers.specs.Airs.{flatAir}
 
 -- what reading an aircraft PDU gives a host: the number, its numbers and its list. 6 where they have no room
 pub record AirShown : Type 0 where

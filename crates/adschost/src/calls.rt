@@ -1,12 +1,12 @@
 // The calls on a link, one function each.
-use flatup::ground_at;
-use frame::step::make;
-use frame::step::step;
 use ground::call::Call;
+use host_numbers::uplink::ground_at;
+use host_record::step::make;
+use host_record::step::step;
 ghost use mathlib.Core.List.{[]};
-ghost use Rattle.flatup.specs.Grounds.{groundAt};
+ghost use Rattle.host_numbers.specs.Grounds.{groundAt};
 ghost use Rattle.ground.specs.declared.call.Call.the-variants.{Request, UserAbort, Elapse, StartConfirm, StartRejected, Data, EndConfirm, PeerAbort, AirAbort, Down};
-ghost use Rattle.frame.specs.Hosting.{hosted, Hosts, made, Makes};
+ghost use Rattle.host_record.specs.Hosting.{hosted, Hosts, made, Makes};
 
 // A new link from nine settings in watch order.
 #[no_mangle]

@@ -1,25 +1,25 @@
 // PDUs to flat numbers and back.
-use flat::copy::copy_numbers;
-use flat::copy::put_items;
-use flatdown::air_at;
-use flatdown::flat_air;
-use flatup::flat_ground;
-use flatup::ground_at;
+use host_numbers::copy::copy_numbers;
+use host_numbers::copy::put_items;
+use host_numbers::downlink::air_at;
+use host_numbers::downlink::flat_air;
+use host_numbers::uplink::flat_ground;
+use host_numbers::uplink::ground_at;
 use pdu::AirAnswer;
 use pdu::GroundAnswer;
 use pdu::decode_air;
 use pdu::decode_ground;
 use pdu::encode_air;
 use pdu::encode_ground;
-use pen::Written;
+use per::pen::Written;
 ghost use mathlib.Core.Path.{_≡_};
 ghost use Rattle.per.specs.Pdu.{readPdu};
-ghost use Rattle.pen.specs.Writing.{writePdu};
-ghost use Rattle.uplink.specs.Table.{groundC};
-ghost use Rattle.downlink.specs.Table.{airC};
+ghost use Rattle.per.specs.Writing.{writePdu};
+ghost use Rattle.pdu.specs.UplinkTable.{groundC};
+ghost use Rattle.pdu.specs.DownlinkTable.{airC};
 ghost use Rattle.pdu.specs.Answers.{airReading, groundReading};
-ghost use Rattle.flatup.specs.Grounds.{groundAt};
-ghost use Rattle.flatdown.specs.Airs.{airAt};
+ghost use Rattle.host_numbers.specs.Grounds.{groundAt};
+ghost use Rattle.host_numbers.specs.Airs.{airAt};
 ghost use Rattle.adschost.specs.Flatness.{airShown, ShowsAir, groundShown, ShowsGround, numberOf, lengthOf, WritesFlat};
 
 // An aircraft PDU as 25 numbers and the 128 octets of its list.

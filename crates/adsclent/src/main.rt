@@ -1,4 +1,4 @@
 // Plays a bench script as `adsc` does, with the clock worked on a lent link record.
 fn main() {
-    player::play(true);
+    bench::player::play(true);
 }

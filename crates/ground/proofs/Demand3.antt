@@ -8,30 +8,30 @@ use native.Mathlib.Nat.{add-zero}
 use lib.Dec.{T, leb, ltb, eqb, leb→le, nleb→lt, eqb→eq, lit<}
 use lib.ListN.{length, getD, replicate}
 use borrow.Author.Tests.{eqb-true, lt-ltb, le-leb, not-true}
-use Rattle.moves.specs.Tests.{both, either, pick, below}
-use Rattle.moves.specs.Names.{EC, ACTIVE, EC1, EC2}
-use Rattle.moves.specs.Watch.{runs}
-use Rattle.moves.specs.Moves.{moveOf}
-use Rattle.moves.specs.Acts.{acts, one}
-use Rattle.moves.specs.declared.decide.Move.{Move}
-use Rattle.moves.specs.declared.acts.Acts.{Acts}
-use Rattle.moves.proofs.Laws.{both-left, both-right, below-at, no-true}
+use Rattle.ground_tables.specs.Tests.{both, either, pick, below}
+use Rattle.ground_tables.specs.Names.{EC, ACTIVE, EC1, EC2}
+use Rattle.ground_tables.specs.Watch.{runs}
+use Rattle.ground_tables.specs.Moves.{moveOf}
+use Rattle.ground_tables.specs.Acts.{acts, one}
+use Rattle.ground_tables.specs.declared.decide.Move.{Move}
+use Rattle.ground_tables.specs.declared.acts.Acts.{Acts}
+use Rattle.ground_tables.proofs.Laws.{both-left, both-right, below-at, no-true}
 use Rattle.link.specs.Record.{LI-IDLE, LI-END, good, timerGood, timerOk, statesOk, liOk, idle, quiet, withLi}
 use Rattle.link.specs.Clock.{due, notDue, later}
-use Rattle.executor.specs.Step.{actsOf, moved}
+use Rattle.link.specs.Step.{actsOf, moved}
 use Rattle.link.specs.declared.record.Link.{Link}
 use Rattle.link.proofs.Laws.{below-fails}
 use Rattle.ground.proofs.Fits.{event-no-clock}
 use Rattle.ground.proofs.Keeps.{Shaped, Sound, good-states, good-timer, timer-parts, left-after, left-later, quiet-good, quiet-shaped, later-good, later-shaped, li-good, li-shaped, went-sound}
-use Rattle.answers.specs.Answers.{tells}
-use Rattle.answers.specs.Aborts.{aborted, closed}
-use Rattle.answers.specs.Fresh.{settingOk, fresh}
-use Rattle.answers.specs.Clock.{elapsed}
-use Rattle.arrivals.specs.Arrivals.{lateData}
+use Rattle.ground_answer.specs.Answers.{tells}
+use Rattle.ground_answer.specs.Aborts.{aborted, closed}
+use Rattle.ground_answer.specs.Fresh.{settingOk, fresh}
+use Rattle.ground_answer.specs.Clock.{elapsed}
+use Rattle.ground.specs.Arrivals.{lateData}
 use Rattle.ground.specs.Runs.{stopsOf, answered, Made, reply, after, member, touches, seconds, total, Untouched, Watched}
-use Rattle.answers.specs.declared.answer.Answer.{Answer}
+use Rattle.ground_answer.specs.declared.answer.Answer.{Answer}
 use Rattle.ground.specs.declared.call.Call.the-variants.{Elapse}
-use Rattle.answers.proofs.Laws.{fresh-good}
+use Rattle.ground_answer.proofs.Laws.{fresh-good}
 use Rattle.ground.proofs.Every.{eq-T, T-eq, Kinds, every}
 use Rattle.ground.proofs.Stops.{closed-list, abort-list, member-left, member-right, member-one, stops-member}
 

@@ -7,29 +7,29 @@ use lib.Dec.{T, leb, eqb}
 use lib.ListN.{replicate}
 use Rattle.per.specs.Pdu as per
 use Rattle.per.specs.Pdu.{readPdu, got, refused}
-use Rattle.uplink.specs.declared.Ground.{Ground}
-use Rattle.uplink.specs.declared.Ground.the-variants.{CancelAll}
-use Rattle.downlink.specs.declared.AirPdu.{AirPdu}
-use Rattle.downlink.specs.Table.{airC}
-use Rattle.moves.specs.Tests.{pick, below}
-use Rattle.moves.specs.Moves.{moveOf}
-use Rattle.moves.specs.Acts.{acts}
+use Rattle.pdu.specs.declared.uplink.Ground.{Ground}
+use Rattle.pdu.specs.declared.uplink.Ground.the-variants.{CancelAll}
+use Rattle.pdu.specs.declared.downlink.AirPdu.{AirPdu}
+use Rattle.pdu.specs.DownlinkTable.{airC}
+use Rattle.ground_tables.specs.Tests.{pick, below}
+use Rattle.ground_tables.specs.Moves.{moveOf}
+use Rattle.ground_tables.specs.Acts.{acts}
 use Rattle.link.specs.Record.{LI-IDLE, LI-START, LI-ACTIVE, LI-END, good, idle, liOk, withLi}
 use Rattle.link.specs.Clock.{notDue, later}
-use Rattle.executor.specs.Step.{actsOf, moved}
+use Rattle.link.specs.Step.{actsOf, moved}
 use Rattle.link.specs.declared.record.Link.{Link}
-use Rattle.mail.specs.Events.{cancel-all, requestEvent, airEvent}
-use Rattle.mail.specs.Sent.{letter}
-use Rattle.mail.specs.declared.sent.Sent.{Sent}
-use Rattle.answers.specs.Answers.{ABORT-REQUEST, ABORT-IND, PEER-ABORT-IND, START-REQUEST, DATA-REQUEST, END-REQUEST, refusal, tells, quietly, allowed}
-use Rattle.answers.specs.Aborts.{aborted, endsWith, closed, closedWhen}
-use Rattle.answers.specs.Clock.{elapsed}
-use Rattle.user.specs.Requests.{asked, allCancelled, requested, userAborted}
-use Rattle.arrivals.specs.Arrivals.{ackOf, ended, passed, taken, confirmed, lateData, arrived}
-use Rattle.endings.specs.Endings.{rejected, failed, reasonOf, airAborted, peerAborted, endConfirmed}
+use Rattle.ground_answer.specs.Events.{cancel-all, requestEvent, airEvent}
+use Rattle.ground_answer.specs.Sent.{letter}
+use Rattle.ground_answer.specs.declared.sent.Sent.{Sent}
+use Rattle.ground_answer.specs.Answers.{ABORT-REQUEST, ABORT-IND, PEER-ABORT-IND, START-REQUEST, DATA-REQUEST, END-REQUEST, refusal, tells, quietly, allowed}
+use Rattle.ground_answer.specs.Aborts.{aborted, endsWith, closed, closedWhen}
+use Rattle.ground_answer.specs.Clock.{elapsed}
+use Rattle.ground.specs.Requests.{asked, allCancelled, requested, userAborted}
+use Rattle.ground.specs.Arrivals.{ackOf, ended, passed, taken, confirmed, lateData, arrived}
+use Rattle.ground.specs.Endings.{rejected, failed, reasonOf, airAborted, peerAborted, endConfirmed}
 use Rattle.ground.specs.Runs.{answered, Made, reply, elapseOf, seconds}
-use Rattle.answers.specs.declared.answer.Answer.{Answer}
-use Rattle.answers.specs.declared.abort.Ending.{Ending}
+use Rattle.ground_answer.specs.declared.answer.Answer.{Answer}
+use Rattle.ground_answer.specs.declared.abort.Ending.{Ending}
 use Rattle.ground.specs.declared.call.Call.{Call}
 use Rattle.ground.specs.declared.call.Call.the-variants.{Request, UserAbort, Elapse, StartConfirm, StartRejected, Data, EndConfirm, PeerAbort, AirAbort, Down}
 

@@ -7,12 +7,12 @@ use Prim.Native.Nat.{ℕ, _-_, _<_}
 use native.Mathlib.Omega.{arith}
 use lib.Dec.{T, leb, eqb, leb→le}
 use lib.ListN.{length, getD, set}
-use Rattle.moves.specs.Tests.{both, either, pick, below}
-use Rattle.moves.specs.Names.{EC, PC, EC1, EC2, PC1, PC3, ACTIVE, no-timer}
-use Rattle.moves.specs.Watch.{runs}
-use Rattle.moves.specs.declared.decide.Move.{Move}
-use Rattle.moves.specs.Moves.{Row, look, still, unlisted, dcRows, dcMove, contractRows, contractMove, emRows, emMove, pc2Quiet, pc2Active, moveOf}
-use Rattle.moves.proofs.Laws.{both-left, both-right, below-at}
+use Rattle.ground_tables.specs.Tests.{both, either, pick, below}
+use Rattle.ground_tables.specs.Names.{EC, PC, EC1, EC2, PC1, PC3, ACTIVE, no-timer}
+use Rattle.ground_tables.specs.Watch.{runs}
+use Rattle.ground_tables.specs.declared.decide.Move.{Move}
+use Rattle.ground_tables.specs.Moves.{Row, look, still, unlisted, dcRows, dcMove, contractRows, contractMove, emRows, emMove, pc2Quiet, pc2Active, moveOf}
+use Rattle.ground_tables.proofs.Laws.{both-left, both-right, below-at}
 use Rattle.link.specs.Record.{statesOk}
 
 abbrev pub same : Bool → Bool → Bool

@@ -10,14 +10,14 @@ use lib.Dec.{T, leb, eqb, leb→le, le→leb, nleb→lt, eqb→eq}
 use lib.ListN.{length, getD, set, replicate, length-set, List·getD-map, length-map}
 use lib.Seq.{getD-set-same, getD-set-other}
 use borrow.Author.Tests.{eqb-true, eqb-false, le-leb}
-use Rattle.moves.specs.Tests.{both, either, pick, below}
-use Rattle.moves.specs.Watch.{runs}
-use Rattle.moves.specs.Moves.{moveOf}
-use Rattle.moves.specs.declared.decide.Move.{Move}
-use Rattle.moves.proofs.Laws.{both-left, both-right, below-at}
+use Rattle.ground_tables.specs.Tests.{both, either, pick, below}
+use Rattle.ground_tables.specs.Watch.{runs}
+use Rattle.ground_tables.specs.Moves.{moveOf}
+use Rattle.ground_tables.specs.declared.decide.Move.{Move}
+use Rattle.ground_tables.proofs.Laws.{both-left, both-right, below-at}
 use Rattle.link.specs.Record.{good, timerGood, timerOk, statesOk, liOk, idle, quiet, withLi}
 use Rattle.link.specs.Clock.{due, notDue, later}
-use Rattle.executor.specs.Step.{moved, loads}
+use Rattle.link.specs.Step.{moved, loads}
 use Rattle.link.specs.declared.record.Link.{Link}
 use Rattle.link.proofs.Laws.{quiet-test}
 use Rattle.ground.proofs.Fits.{same, after-move, balanced, fits, moves-fit}

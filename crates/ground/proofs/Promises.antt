@@ -6,27 +6,27 @@ use Prim.Native.Nat.{ℕ, zero, suc, _+_, _<_, _≤_}
 use native.Mathlib.Omega.{arith}
 use lib.Dec.{T, leb, ltb, eqb, ltb→lt, lit<}
 use lib.ListN.{length, getD, set, length-append}
-use Rattle.moves.specs.Tests.{pick, below}
-use Rattle.moves.specs.Names.{PC, EM, IDLE, ACTIVE, PC2}
-use Rattle.moves.specs.Watch.{runs}
-use Rattle.moves.specs.Moves.{moveOf}
-use Rattle.moves.specs.Acts.{acts, pushed}
-use Rattle.moves.specs.declared.acts.Acts.{Acts}
+use Rattle.ground_tables.specs.Tests.{pick, below}
+use Rattle.ground_tables.specs.Names.{PC, EM, IDLE, ACTIVE, PC2}
+use Rattle.ground_tables.specs.Watch.{runs}
+use Rattle.ground_tables.specs.Moves.{moveOf}
+use Rattle.ground_tables.specs.Acts.{acts, pushed}
+use Rattle.ground_tables.specs.declared.acts.Acts.{Acts}
 use Rattle.link.specs.Record.{quiet, withLi}
 use Rattle.link.specs.Clock.{later, stopped}
-use Rattle.executor.specs.Step.{actsOf, moved}
+use Rattle.link.specs.Step.{actsOf, moved}
 use Rattle.link.specs.declared.record.Link.{Link}
-use Rattle.answers.specs.Answers.{refusal}
-use Rattle.answers.specs.Aborts.{aborted, closed}
-use Rattle.answers.specs.Fresh.{settingOk, fresh}
-use Rattle.arrivals.specs.Arrivals.{lateData}
+use Rattle.ground_answer.specs.Answers.{refusal}
+use Rattle.ground_answer.specs.Aborts.{aborted, closed}
+use Rattle.ground_answer.specs.Fresh.{settingOk, fresh}
+use Rattle.ground.specs.Arrivals.{lateData}
 use Rattle.ground.specs.Runs.{answered, Made, reply, after, total, Untouched}
-use Rattle.answers.specs.declared.answer.Answer.{Answer}
+use Rattle.ground_answer.specs.declared.answer.Answer.{Answer}
 use Rattle.ground.specs.declared.call.Call.{Call}
 use Rattle.ground.specs.declared.call.Call.the-variants.{Elapse}
-use Rattle.executor.proofs.Few.{short}
+use Rattle.link.proofs.Few.{short}
 use Rattle.ground.proofs.Every.{Kinds, every}
-use Rattle.moves.proofs.Laws.{no-true}
+use Rattle.ground_tables.proofs.Laws.{no-true}
 use Rattle.ground.proofs.Demand3.{demand3-first, demand3-second}
 
 -- "a refused call leaves the link .. as before it", and gives no action and no octets

@@ -8,20 +8,20 @@ use native.Mathlib.Nat.{not-suc-le-zero, le-of-suc-le-suc, eq-or-lt-of-le, le-re
 use lib.Dec.{T, leb, eqb, leb→le, eqb→eq}
 use lib.ListN.{length, getD, length-append}
 use borrow.Author.Tests.{eq-eqb}
-use Rattle.moves.specs.Tests.{either, pick}
-use Rattle.moves.specs.Watch.{runs}
-use Rattle.moves.specs.Acts.{acts, pushed}
-use Rattle.moves.specs.declared.acts.Acts.{Acts}
-use Rattle.moves.proofs.Laws.{cases, no-true}
+use Rattle.ground_tables.specs.Tests.{either, pick}
+use Rattle.ground_tables.specs.Watch.{runs}
+use Rattle.ground_tables.specs.Acts.{acts, pushed}
+use Rattle.ground_tables.specs.declared.acts.Acts.{Acts}
+use Rattle.ground_tables.proofs.Laws.{cases, no-true}
 use Rattle.link.specs.Record.{good, timerGood, timerOk}
 use Rattle.link.specs.Clock.{stopped}
 use Rattle.link.specs.declared.record.Link.{Link}
 use Rattle.ground.proofs.Fits.{states-test, all-states}
-use Rattle.executor.proofs.Pushes.{push-acts}
+use Rattle.link.proofs.Pushes.{push-acts}
 use Rattle.ground.proofs.Keeps.{Sound, good-states, good-timer, timer-parts}
-use Rattle.answers.specs.Aborts.{aborted, closed}
+use Rattle.ground_answer.specs.Aborts.{aborted, closed}
 use Rattle.ground.specs.Runs.{stopsOf, member}
-use Rattle.answers.specs.declared.abort.Ending.{Ending}
+use Rattle.ground_answer.specs.declared.abort.Ending.{Ending}
 
 -- how many numbers below n pass a test
 count : ℕ → (ℕ → Bool) → ℕ

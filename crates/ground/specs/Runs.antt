@@ -5,15 +5,15 @@ use mathlib.Core.List.{List, [], _∷_, _++_}
 use Prim.Native.Nat.{ℕ, zero, suc, _+_, _≤_}
 use lib.Dec.{eqb, leb}
 use lib.ListN.{getD}
-use Rattle.moves.specs.Tests.{either, pick}
-use Rattle.moves.specs.Watch.{runs}
-use Rattle.moves.specs.Acts.{one}
+use Rattle.ground_tables.specs.Tests.{either, pick}
+use Rattle.ground_tables.specs.Watch.{runs}
+use Rattle.ground_tables.specs.Acts.{one}
 use Rattle.link.specs.declared.record.Link.{Link}
-use Rattle.answers.specs.Clock.{elapsed}
-use Rattle.user.specs.Requests.{requested, userAborted}
-use Rattle.arrivals.specs.Arrivals.{confirmed, arrived}
-use Rattle.endings.specs.Endings.{rejected, failed, airAborted, peerAborted, endConfirmed}
-use Rattle.answers.specs.declared.answer.Answer.{Answer}
+use Rattle.ground_answer.specs.Clock.{elapsed}
+use Rattle.ground.specs.Requests.{requested, userAborted}
+use Rattle.ground.specs.Arrivals.{confirmed, arrived}
+use Rattle.ground.specs.Endings.{rejected, failed, airAborted, peerAborted, endConfirmed}
+use Rattle.ground_answer.specs.declared.answer.Answer.{Answer}
 use Rattle.ground.specs.declared.call.Call.{Call}
 use Rattle.ground.specs.declared.call.Call.the-variants.{Request, UserAbort, Elapse, StartConfirm, StartRejected, Data, EndConfirm, PeerAbort, AirAbort, Down}
 

@@ -1,17 +1,17 @@
 // Every call under one name.
-use answers::answer::Answer;
-use answers::clock::elapse;
-use arrivals::data;
-use arrivals::start_confirm;
-use endings::air_abort;
-use endings::down;
-use endings::end_confirm;
-use endings::peer_abort;
-use endings::start_rejected;
+use crate::arrivals::data;
+use crate::arrivals::start_confirm;
+use crate::endings::air_abort;
+use crate::endings::down;
+use crate::endings::end_confirm;
+use crate::endings::peer_abort;
+use crate::endings::start_rejected;
+use crate::requests::request;
+use crate::requests::user_abort;
+use ground_answer::answer::Answer;
+use ground_answer::clock::elapse;
 use link::record::Link;
-use uplink::Ground;
-use user::request;
-use user::user_abort;
+use pdu::uplink::Ground;
 ghost use mathlib.Core.Path.{_≡_};
 ghost use Rattle.ground.specs.Runs.{answered};
 

@@ -8,9 +8,9 @@ use native.Mathlib.Numerals.{add-one}
 use lib.Seq.{take-all}
 use lib.Dec.{T, eqb}
 use lib.ListN.{length, getD, set, take, drop, replicate, drop-of-length-le}
-use Rattle.moves.specs.Tests.{both, below}
-use Rattle.moves.specs.Watch.{runs}
-use Rattle.moves.proofs.Laws.{cases, both-1}
+use Rattle.ground_tables.specs.Tests.{both, below}
+use Rattle.ground_tables.specs.Watch.{runs}
+use Rattle.ground_tables.proofs.Laws.{cases, both-1}
 
 pub both-pass : (a b x : Bool) → a ≡ true → b ≡ true → x ≡ both a (both b x)
 both-pass a b x p q = rw (p, q)

@@ -4,9 +4,9 @@ use mathlib.Core.List.{List, [], map}
 use Prim.Native.Nat.{ℕ, zero, suc, _+_, _-_}
 use lib.Dec.{leb}
 use lib.ListN.{getD}
-use Rattle.moves.specs.Tests.{both, pick}
-use Rattle.moves.specs.Acts.{acts, pushed}
-use Rattle.moves.specs.declared.acts.Acts.{Acts}
+use Rattle.ground_tables.specs.Tests.{both, pick}
+use Rattle.ground_tables.specs.Acts.{acts, pushed}
+use Rattle.ground_tables.specs.declared.acts.Acts.{Acts}
 use Rattle.link.specs.declared.record.Link.{Link}
 
 -- a timer runs and has n or fewer left; so n is at least 1

@@ -5,9 +5,9 @@ use mathlib.Core.List.{List}
 use Prim.Native.Nat.{ℕ}
 use lib.Dec.{eqb, leb}
 use lib.ListN.{getD, replicate}
-use Rattle.moves.specs.Tests.{both, pick, below}
-use Rattle.moves.specs.Names.{DC, EC, PC, EM, IDLE, DC-ACTIVE, CANCEL, MODIFY}
-use Rattle.moves.specs.Watch.{runs}
+use Rattle.ground_tables.specs.Tests.{both, pick, below}
+use Rattle.ground_tables.specs.Names.{DC, EC, PC, EM, IDLE, DC-ACTIVE, CANCEL, MODIFY}
+use Rattle.ground_tables.specs.Watch.{runs}
 use Rattle.link.specs.declared.record.Link.{Link}
 
 -- LI's states

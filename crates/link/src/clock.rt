@@ -1,13 +1,13 @@
 // What time does to the nine timers, and what stopping them all says.
 use crate::actions::*;
 use crate::record::Link;
-use moves::acts::Acts;
-use moves::acts::none;
-use moves::acts::push_when;
+use ground_tables::acts::Acts;
+use ground_tables::acts::none;
+use ground_tables::acts::push_when;
 ghost use mathlib.Core.Path.{_≡_};
 ghost use mathlib.Core.List.{map};
 ghost use Prim.Native.Nat.{_-_};
-ghost use Rattle.moves.specs.Tests.{below};
+ghost use Rattle.ground_tables.specs.Tests.{below};
 ghost use Rattle.link.specs.Clock.{due, notDue, later, stopped};
 
 fn is_due(n: u32, left: u32) -> bool

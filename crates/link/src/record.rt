@@ -1,8 +1,8 @@
 // The link record, and the check that every call makes first.
-use moves::names::*;
-use moves::watch::watched;
+use ground_tables::names::*;
+use ground_tables::watch::watched;
 ghost use mathlib.Core.Path.{_≡_};
-ghost use Rattle.moves.specs.Tests.{below};
+ghost use Rattle.ground_tables.specs.Tests.{below};
 ghost use Rattle.link.specs.Record.{timerOk, timerGood, idle, statesOk, liOk, good, quiet, withLi};
 
 // LI's states.

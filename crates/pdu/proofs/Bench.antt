@@ -3,13 +3,13 @@ use mathlib.Core.Path.{_≡_, refl}
 use Rattle.per.specs.Bits.{ofBit, toBit, toBits, numAt, bitsOf, widthIn, width}
 use Rattle.per.specs.Formats.{field, dep, via, only, absent, when, has, altCodec, neverCodec, choice, vec, list16}
 use Rattle.per.specs.Pdu.{pack, encode, window, start, finish, readPdu}
-use Rattle.fields.specs.Table.{angleC, positionC, timeC, meritC, fixC, reportC, emergencyReportC}
-use Rattle.lists.specs.Lists.{listed, entryC}
-use Rattle.contracts.specs.Interval.{intervalC, sentC, sentBits}
-use Rattle.contracts.specs.Periodic.{periodicC}
-use Rattle.uplink.specs.Table.{groundAlt, groundC}
-use Rattle.parts.specs.Parts.{ackedC, ackedEmergencyC, eventReportC, negativeC, noncomplianceC}
-use Rattle.downlink.specs.Table.{airAlt, airC}
+use Rattle.pdu_parts.specs.Table.{angleC, positionC, timeC, meritC, fixC, reportC, emergencyReportC}
+use Rattle.pdu_parts.specs.Lists.{listed, entryC}
+use Rattle.pdu_parts.specs.Interval.{intervalC, sentC, sentBits}
+use Rattle.pdu_parts.specs.Periodic.{periodicC}
+use Rattle.pdu.specs.UplinkTable.{groundAlt, groundC}
+use Rattle.pdu_parts.specs.Parts.{ackedC, ackedEmergencyC, eventReportC, negativeC, noncomplianceC}
+use Rattle.pdu.specs.DownlinkTable.{airAlt, airC}
 use Rattle.pdu.specs.Bench.{bench, reread, rewritten, all}
 
 pub bench-holds : (all reread bench ≡ bench) × (all rewritten bench ≡ bench)

@@ -1,3 +1,7 @@
+pub mod UplinkBounds
+pub mod UplinkNorms
+pub mod DownlinkBounds
+pub mod DownlinkNorms
 pub mod Sending
 pub mod Promises
 pub mod Bench

@@ -9,12 +9,12 @@ use Rattle.per.specs.Codec.{Codec}
 use Rattle.per.specs.Pdu.{encode, got, readPdu}
 use Rattle.per.proofs.Longest.{Most, up}
 use Rattle.per.proofs.RoundTrip.{written, read, length-encode}
-use Rattle.uplink.specs.declared.Ground.{Ground}
-use Rattle.uplink.specs.Table.{groundC}
-use Rattle.uplink.proofs.Bounds.{ground-own, ground-most}
-use Rattle.downlink.specs.declared.AirPdu.{AirPdu}
-use Rattle.downlink.specs.Table.{airC}
-use Rattle.downlink.proofs.Bounds.{air-own, air-most}
+use Rattle.pdu.specs.declared.uplink.Ground.{Ground}
+use Rattle.pdu.specs.UplinkTable.{groundC}
+use Rattle.pdu.proofs.UplinkBounds.{ground-own, ground-most}
+use Rattle.pdu.specs.declared.downlink.AirPdu.{AirPdu}
+use Rattle.pdu.specs.DownlinkTable.{airC}
+use Rattle.pdu.proofs.DownlinkBounds.{air-own, air-most}
 
 -- no PDU is over 128 octets
 short : {A : Type 0} (c : Codec A) → Most 1024 c → (a : A) → length (encode c a) ≤ 128

@@ -4,11 +4,11 @@ use mathlib.Core.Path.{_≡_}
 use mathlib.Core.List.{List}
 use Rattle.per.specs.Codec.{Codec}
 use Rattle.per.specs.Pdu.{Answer, got, refused}
-use Rattle.pen.specs.declared.Written.{Written}
-use Rattle.pen.specs.Writing.{writePdu}
-use Rattle.lists.specs.Lists.{noList}
-use Rattle.uplink.specs.declared.Ground.{Ground}
-use Rattle.downlink.specs.declared.AirPdu.{AirPdu}
+use Rattle.per.specs.declared.pen.Written.{Written}
+use Rattle.per.specs.Writing.{writePdu}
+use Rattle.pdu_parts.specs.Lists.{noList}
+use Rattle.pdu.specs.declared.uplink.Ground.{Ground}
+use Rattle.pdu.specs.declared.downlink.AirPdu.{AirPdu}
 use Rattle.pdu.specs.declared.AirReading.{AirReading}
 use Rattle.pdu.specs.declared.AirAnswer as air
 use Rattle.pdu.specs.declared.GroundAnswer as ground

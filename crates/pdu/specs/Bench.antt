@@ -4,18 +4,18 @@ use mathlib.Core.Bool.{false}
 use mathlib.Core.List.{List, [], _∷_}
 use lib.IntN.{pos}
 use Rattle.per.specs.Pdu.{Answer, got, refused, encode, readPdu}
-use Rattle.fields.specs.declared.position.Angle.{Angle}
-use Rattle.fields.specs.declared.report.Report.{Report}
-use Rattle.contracts.specs.declared.interval.Interval.the-variants.{Minutes}
-use Rattle.contracts.specs.declared.contract.Periodic.{Periodic}
-use Rattle.uplink.specs.declared.Ground.{Ground}
-use Rattle.uplink.specs.declared.Ground.the-variants.{CancelContract, DemandContract, EventContract, ModifyEmergency, PeriodicContract}
-use Rattle.uplink.specs.declared.Ground as ground
-use Rattle.uplink.specs.Table.{groundC}
-use Rattle.downlink.specs.declared.Air.the-variants.{CancelEmergency, Demand, Negative, Positive}
-use Rattle.downlink.specs.declared.Air as air
-use Rattle.downlink.specs.declared.AirPdu.{AirPdu}
-use Rattle.downlink.specs.Table.{airC, bareAir}
+use Rattle.pdu_parts.specs.declared.position.Angle.{Angle}
+use Rattle.pdu_parts.specs.declared.report.Report.{Report}
+use Rattle.pdu_parts.specs.declared.interval.Interval.the-variants.{Minutes}
+use Rattle.pdu_parts.specs.declared.contract.Periodic.{Periodic}
+use Rattle.pdu.specs.declared.uplink.Ground.{Ground}
+use Rattle.pdu.specs.declared.uplink.Ground.the-variants.{CancelContract, DemandContract, EventContract, ModifyEmergency, PeriodicContract}
+use Rattle.pdu.specs.declared.uplink.Ground as ground
+use Rattle.pdu.specs.UplinkTable.{groundC}
+use Rattle.pdu.specs.declared.downlink.Air.the-variants.{CancelEmergency, Demand, Negative, Positive}
+use Rattle.pdu.specs.declared.downlink.Air as air
+use Rattle.pdu.specs.declared.downlink.AirPdu.{AirPdu}
+use Rattle.pdu.specs.DownlinkTable.{airC, bareAir}
 
 pub data Example : Type 0 where
   down : List ℕ → Answer AirPdu → Example

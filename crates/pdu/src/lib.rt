@@ -1,20 +1,23 @@
 // Whole PDUs: octets to values and values to octets, both families.
-use downlink::Air;
-use downlink::AirPdu;
-use downlink::read_air;
-use downlink::write_air;
-use lists::Listed;
-use lists::no_list;
-use pen::Pen;
-use pen::Written;
+pub mod downlink;
+pub mod uplink;
+
+use crate::downlink::Air;
+use crate::downlink::AirPdu;
+use crate::downlink::read_air;
+use crate::downlink::write_air;
+use crate::uplink::Ground;
+use crate::uplink::read_ground;
+use crate::uplink::write_ground;
+use pdu_parts::lists::Listed;
+use pdu_parts::lists::no_list;
 use per::cursor::Cursor;
-use uplink::Ground;
-use uplink::read_ground;
-use uplink::write_ground;
+use per::pen::Pen;
+use per::pen::Written;
 ghost use mathlib.Core.Path.{_≡_};
 ghost use Rattle.per.specs.Pdu.{readPdu};
-ghost use Rattle.downlink.specs.Table.{airC};
-ghost use Rattle.uplink.specs.Table.{groundC};
+ghost use Rattle.pdu.specs.DownlinkTable.{airC};
+ghost use Rattle.pdu.specs.UplinkTable.{groundC};
 ghost use Rattle.pdu.specs.Answers.{airReading, groundReading, Sends};
 
 // What reading an aircraft PDU gives: its kind, or the number of a refusal.

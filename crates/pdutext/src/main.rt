@@ -1,6 +1,6 @@
 // Reads lines `air HEX` and `ground HEX` on standard input and tells a person what each PDU says, or why it is refused.
-use lines::Task;
+use pdu_words::lines::Task;
 
 fn main() {
-    lines::answer(Task::Tell);
+    pdu_words::lines::answer(Task::Tell);
 }

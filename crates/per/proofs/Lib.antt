@@ -7,3 +7,8 @@ pub mod Compose
 pub mod Within
 pub mod RoundTrip
 pub mod Longest
+pub mod Puts
+pub mod Inks
+pub mod PenSigns
+pub mod Checks
+pub mod Sheets

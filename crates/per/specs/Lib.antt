@@ -7,3 +7,5 @@ pub mod Pdu
 pub mod Reading
 pub mod Inner
 pub mod laws
+pub mod Writing
+pub mod PenInner

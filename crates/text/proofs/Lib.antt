@@ -1,3 +1,4 @@
 pub mod Laws
 pub mod Pages
 pub mod Trip
+pub mod Counting

@@ -1,4 +1,5 @@
 // Text on lent octets: words, hexadecimal octets in lower case, whole numbers; and writing such text onto a lent page.
+pub mod digits;
 
 ghost use mathlib.Core.Path.{_≡_};
 ghost use mathlib.Core.Bool.{true, false};

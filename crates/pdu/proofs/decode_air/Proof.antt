@@ -1,5 +1,5 @@
 use Rattle.per.proofs.Ends.{pdu-refused, pdu-got}
-use Rattle.downlink.specs.Table.{airC}
+use Rattle.pdu.specs.DownlinkTable.{airC}
 use Rattle.pdu.specs.Answers.{airReading}
 use borrow.Author.Needs.{needs}
 use Rattle.pdu.proofs.decode_air.Statement.{statement}

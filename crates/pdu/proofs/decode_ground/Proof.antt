@@ -1,5 +1,5 @@
 use Rattle.per.proofs.Ends.{pdu-refused, pdu-got}
-use Rattle.uplink.specs.Table.{groundC}
+use Rattle.pdu.specs.UplinkTable.{groundC}
 use Rattle.pdu.specs.Answers.{groundReading}
 use borrow.Author.Needs.{needs}
 use Rattle.pdu.proofs.decode_ground.Statement.{statement}

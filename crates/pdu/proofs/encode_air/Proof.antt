@@ -1,9 +1,9 @@
 use mathlib.Core.Path.{sym}
 use lib.Dec.{lit≤}
 use Rattle.per.proofs.Longest.{up}
-use Rattle.pen.proofs.Sheets.{sheet-long}
-use Rattle.downlink.specs.Table.{airC}
-use Rattle.downlink.proofs.Bounds.{air-most}
+use Rattle.per.proofs.Sheets.{sheet-long}
+use Rattle.pdu.specs.DownlinkTable.{airC}
+use Rattle.pdu.proofs.DownlinkBounds.{air-most}
 use Rattle.pdu.proofs.Sending.{sends}
 use borrow.Author.Needs.{needs}
 use Rattle.pdu.proofs.encode_air.Statement.{statement}

@@ -1,4 +1,4 @@
-use Rattle.downlink.specs.Table.{airC}
+use Rattle.pdu.specs.DownlinkTable.{airC}
 use Rattle.adschost.proofs.Ways.{written-so}
 use borrow.Author.Needs.{needs}
 use Rattle.adschost.proofs.messages.adsc_write_air.Statement.{statement}

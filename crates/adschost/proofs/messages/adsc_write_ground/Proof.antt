@@ -1,4 +1,4 @@
-use Rattle.uplink.specs.Table.{groundC}
+use Rattle.pdu.specs.UplinkTable.{groundC}
 use Rattle.adschost.proofs.Ways.{written-so}
 use borrow.Author.Needs.{needs}
 use Rattle.adschost.proofs.messages.adsc_write_ground.Statement.{statement}

@@ -1,5 +1,5 @@
 use borrow.Author.Tests.{eq-eqb, ne-eqb}
-use Rattle.moves.proofs.Laws.{both-4}
+use Rattle.ground_tables.proofs.Laws.{both-4}
 use Rattle.link.specs.Record.{idle}
 use borrow.Author.Needs.{needs}
 use Rattle.link.proofs.record.all_idle.Statement.{statement}

@@ -1,6 +1,6 @@
 use borrow.Author.Tests.{not-true, not-false}
 use mathlib.Core.Path.{sym, _∙_}
-use Rattle.moves.proofs.Laws.{both-1, both-2}
+use Rattle.ground_tables.proofs.Laws.{both-1, both-2}
 use Rattle.link.proofs.Laws.{both-pass}
 use Rattle.link.specs.Record.{good}
 use borrow.Author.Needs.{needs}

@@ -1,5 +1,5 @@
 use borrow.Author.Tests.{le-leb, lt-leb}
-use Rattle.moves.proofs.Laws.{both-4}
+use Rattle.ground_tables.proofs.Laws.{both-4}
 use Rattle.link.specs.Record.{statesOk}
 use borrow.Author.Needs.{needs}
 use Rattle.link.proofs.record.states_ok.Statement.{statement}

@@ -1,5 +1,5 @@
 use borrow.Author.Tests.{le-leb, lt-leb}
-use Rattle.moves.proofs.Laws.{both-1, both-2}
+use Rattle.ground_tables.proofs.Laws.{both-1, both-2}
 use Rattle.link.specs.Record.{timerOk}
 use Rattle.link.proofs.record.timer_ok.Statement.{statement}
 use Rattle.link.proofs.record.timer_ok.Tie as tie

@@ -4,7 +4,7 @@ use borrow.Author.Tests.{not-true, not-false}
 use Prim.Native.Nat.{_-_, _≤_}
 use native.Mathlib.Omega.{arith}
 use Rattle.link.proofs.Laws.{below-more, below-fails, at-end}
-use Rattle.moves.specs.Tests.{below}
+use Rattle.ground_tables.specs.Tests.{below}
 use Rattle.link.specs.Record.{timerGood}
 use borrow.Author.Needs.{needs}
 use Rattle.link.proofs.record.timers_ok.Statement.{statement}

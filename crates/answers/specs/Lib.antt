@@ -1,4 +1,0 @@
-pub mod Answers
-pub mod Aborts
-pub mod Fresh
-pub mod Clock

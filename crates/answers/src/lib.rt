@@ -1,5 +1,0 @@
-// What a call answers, and the answers that need no table: refusals, aborts, an elapse, a new link.
-pub mod abort;
-pub mod answer;
-pub mod clock;
-pub mod fresh;

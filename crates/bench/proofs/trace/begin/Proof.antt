@@ -1,0 +1,23 @@
+use mathlib.Core.Path.{refl}
+use Prim.Native.Nat.{_-_}
+use Rattle.ground_answer.specs.Fresh.{fresh}
+use Rattle.bench.specs.Trace.{cold, firstText}
+use borrow.Author.Needs.{needs}
+use Rattle.bench.proofs.trace.begin.Statement.{statement}
+use Rattle.bench.proofs.trace.begin.Tie as tie
+
+slice-aggregate-put-text : tie.Need-slice-aggregate-put-text
+slice-aggregate-put-text c = search needs
+
+put-text-requires : tie.Need-put-text-requires
+put-text-requires c κs = search needs
+
+same-length : tie.Need-same-length
+same-length c = search needs
+
+returns : tie.Need-returns
+unfolding firstText cold fresh
+returns c = (refl, refl, refl, c .before .before .put-text .ensures)
+
+pub begin-spec : {M : Type 1} → statement M
+begin-spec = tie.close (tie.spec slice-aggregate-put-text put-text-requires same-length returns)

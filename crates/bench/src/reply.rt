@@ -1,0 +1,111 @@
+// The answer to one line of a script.
+use bench_line::answer::put_refused;
+use bench_line::answer::put_said;
+use bench_line::line::Told;
+use bench_line::line::asked;
+use bench_line::words::SET;
+use bench_line::words::word_of;
+use ground_answer::fresh::open;
+use ground_lent::answer_by;
+use link::record::Link;
+use text::digits::parse_nine;
+use text::least;
+use text::put_text;
+use text::word_end;
+ghost use mathlib.Core.Path.{_≡_};
+ghost use Prim.Native.Nat.{_≤_};
+ghost use lib.ListN.{length};
+ghost use Rattle.text.specs.Page.{page};
+ghost use Rattle.bench_line.specs.Lines.{askedOf};
+ghost use Rattle.bench.specs.Replies.{refusedReply, playReply, setReply, lineReply, Replies};
+
+// The box at the bench: `ready` once it has its settings, and its link from then on.
+pub struct Bench {
+    pub ready: bool,
+    pub link: Link,
+}
+
+// The box after a line, and the place of the pen after its text.
+pub struct Replied {
+    pub bench: Bench,
+    pub at: usize,
+}
+
+fn refuse_line(b: Bench, n: u8, out: &mut [u8], at: usize) -> Replied
+    ensures { λ r. ⌜ Replies (refusedReply b n) (page (now (out .entry)) at) (r .bench) (page (now (out .exit)) (r .at)) ⌝ }
+{
+    let a = put_refused(out, at, n);
+    Replied { bench: b, at: a }
+}
+
+// Room for the octets of the longest line. Only its length is stated: its octets are written before they are read.
+fn blank() -> [u8; 2048]
+    ensures { λ r. ⌜ 2048 ≡ length r ⌝ }
+{
+    [0; 2048]
+}
+
+// A line for a box that has its settings.
+fn play(link: Link, line: &[u8], out: &mut [u8], at: usize, lent: bool) -> Replied
+    ensures { λ r. ⌜ Replies (playReply link (askedOf (now (line .entry)))) (page (now (out .entry)) at) (r .bench) (page (now (out .exit)) (r .at)) ⌝ }
+{
+    let mut octets = blank();
+    let told = asked(line, &mut octets);
+    let Told::Asks(call, n) = told else {
+        return refuse_line(Bench { ready: true, link }, 17, out, at);
+    };
+    let m = least(n, 2048);
+    let a = answer_by(link, call, &octets[..m], lent);
+    let next = a.link;
+    let said = a.said;
+    let b = put_said(out, at, said, &octets[..m]);
+    Replied {
+        bench: Bench {
+            ready: true,
+            link: next,
+        },
+        at: b,
+    }
+}
+
+// A line with the settings, for a box that has none.
+fn set_line(b: Bench, tail: &[u8], out: &mut [u8], at: usize) -> Replied
+    ensures { λ r. ⌜ Replies (setReply b (now (tail .entry))) (page (now (out .entry)) at) (r .bench) (page (now (out .exit)) (r .at)) ⌝ }
+{
+    let nine = parse_nine(tail);
+    let good = nine.good;
+    if !good {
+        return refuse_line(b, 17, out, at);
+    }
+    let list = nine.list;
+    let o = open(list);
+    let refusal = o.refusal;
+    if refusal != 0 {
+        return refuse_line(b, refusal, out, at);
+    }
+    let link = o.link;
+    let a = put_text(out, at, b"ok");
+    Replied {
+        bench: Bench { ready: true, link },
+        at: a,
+    }
+}
+
+// One line, without its number and its end. `lent` says how the clock is worked; the answer does not depend on it.
+pub fn answer_line(b: Bench, line: &[u8], out: &mut [u8], at: usize, lent: bool) -> Replied
+    ensures { λ r. ⌜ Replies (lineReply b (now (line .entry))) (page (now (out .entry)) at) (r .bench) (page (now (out .exit)) (r .at)) ⌝ }
+{
+    let link = b.link;
+    if b.ready {
+        return play(link, line, out, at, lent);
+    }
+    if 4096 < line.len() {
+        return refuse_line(b, 17, out, at);
+    }
+    let e = word_end(line);
+    let w = word_of(&line[..e]);
+    if w == SET {
+        return set_line(b, &line[e..], out, at);
+    }
+    refuse_line(b, 17, out, at)
+}

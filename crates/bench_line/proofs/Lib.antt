@@ -1,0 +1,4 @@
+pub mod Saying
+pub mod Short
+pub mod Tables
+pub mod Hearing

@@ -1,0 +1,77 @@
+-- The text of an answer is never long. Assumes nothing.
+use mathlib.Core.Path.{_≡_, refl}
+use mathlib.Core.Bool.{Bool, true, false}
+use mathlib.Core.List.{List, [], _∷_, _++_}
+use Prim.Native.Nat.{ℕ, zero, suc, _+_, _-_, _*_, _/_, _%_, _≤_}
+use native.Mathlib.Nat.{le-trans, min-le-right}
+use native.Mathlib.Omega.{arith}
+use lib.Dec.{eqb, leb, ltb, lit≤}
+use lib.ListN.{length, take, length-append, length-take}
+use Rattle.text.specs.Letters.{ascii}
+use Rattle.text.specs.Text.{pick, hexText, decimal}
+use Rattle.text.proofs.Laws.{decimal-length}
+use Rattle.ground_answer.specs.declared.answer.Said.{Said}
+use Rattle.bench_line.specs.Says.{spaced, timerText, timerEntry, entryText, restOf, entriesOf, refusedText, saidText}
+
+hex-length : (os : List ℕ) → length (hexText os) ≡ length os + length os
+hex-length [] = refl
+hex-length (o ∷ os) = omega (arith, hex-length os)
+
+spaced-length : (s : List ℕ) → length s ≤ 2048 → length (spaced s) ≤ 4097
+unfolding spaced
+spaced-length [] h = omega arith
+spaced-length (o ∷ os) h = omega (arith, hex-length (o ∷ os))
+
+-- one of two texts
+of-two : (b : Bool) (n : ℕ) (x y : List ℕ) → length x ≤ n → length y ≤ n → length (pick b x y) ≤ n
+of-two true n x y p q = p
+of-two false n x y p q = q
+
+behind : (t s : List ℕ) (n : ℕ) → length t ≤ 12 → length s ≤ n → length (t ++ s) ≤ 12 + n
+behind t s n p q = omega (arith, length-append t s, p, q)
+
+timer-length : (t : ℕ) → length (timerText t) ≤ 4097
+unfolding timerText
+timer-length t =
+    of-two (eqb t 0) 4097 _ _ (lit≤ tt) (of-two (eqb t 1) 4097 _ _ (lit≤ tt) (of-two (eqb t 2) 4097 _ _ (lit≤ tt)
+    (of-two (eqb t 3) 4097 _ _ (lit≤ tt) (of-two (eqb t 4) 4097 _ _ (lit≤ tt) (of-two (eqb t 5) 4097 _ _ (lit≤ tt)
+    (of-two (eqb t 6) 4097 _ _ (lit≤ tt) (of-two (eqb t 7) 4097 _ _ (lit≤ tt) (of-two (eqb t 8) 4097 _ _ (lit≤ tt) (lit≤ tt)))))))))
+
+timer-entry-length : (c : ℕ) → length (timerEntry c) ≤ 4109
+unfolding timerEntry
+timer-entry-length c =
+    of-two (ltb c 16) 4109 _ _ (lit≤ tt)
+    (of-two (ltb c 32) 4109 _ _ (behind (ascii " stop ") (timerText (c - 16)) 4097 (lit≤ tt) (timer-length (c - 16))) (behind (ascii " start ") (timerText (c - 32)) 4097 (lit≤ tt) (timer-length (c - 32))))
+
+entry-length : (c : ℕ) (sent : List ℕ) (reason : ℕ) (came : List ℕ) → length sent ≤ 2048 → length came ≤ 2048 → length (entryText c sent reason came) ≤ 4109
+unfolding entryText
+entry-length c sent reason came p q =
+    of-two (eqb c 1) 4109 _ _ (behind (ascii " start-req") (spaced sent) 4097 (lit≤ tt) (spaced-length sent p))
+    (of-two (eqb c 2) 4109 _ _ (behind (ascii " data-req") (spaced sent) 4097 (lit≤ tt) (spaced-length sent p))
+    (of-two (eqb c 3) 4109 _ _ (behind (ascii " end-req") (spaced sent) 4097 (lit≤ tt) (spaced-length sent p))
+    (of-two (eqb c 4) 4109 _ _ (behind (ascii " abort-req") (spaced sent) 4097 (lit≤ tt) (spaced-length sent p))
+    (of-two (eqb c 5) 4109 _ _ (behind (ascii " ind") (spaced came) 4097 (lit≤ tt) (spaced-length came q))
+    (of-two (eqb c 6) 4109 _ _ (behind (ascii " ind abort ") (decimal reason) 4097 (lit≤ tt) (le-trans (decimal-length reason) (lit≤ tt)))
+    (of-two (eqb c 7) 4109 _ _ (lit≤ tt) (of-two (eqb c 8) 4109 _ _ (lit≤ tt) (timer-entry-length c))))))))
+
+entries-length : (l octets : List ℕ) (n reason : ℕ) (came : List ℕ) → length octets ≤ 2048 → length came ≤ 2048
+    → length (entriesOf l octets n reason came) ≤ length l * 4109
+entries-length [] octets n reason came p q = omega arith
+entries-length (c ∷ cs) octets n reason came p q =
+    let a = entry-length c (take n octets) reason came (omega (arith, length-take n octets, min-le-right n (length octets), p)) q in
+    let b = entries-length cs octets (restOf c n) reason came p q in
+    omega (arith, length-append (entryText c (take n octets) reason came) (entriesOf cs octets (restOf c n) reason came), a, b)
+
+pub refused-length : (n : ℕ) → length (refusedText n) ≤ 28
+unfolding refusedText
+refused-length n = omega (arith, length-append (ascii "refused ") (decimal n), decimal-length n)
+
+pub said-length : (said : Said) (came : List ℕ) → length (said .acts .list) ≡ 8 → length (said .sent .octets) ≡ 8 → length came ≤ 2048
+    → length (saidText said came) ≤ 33000
+unfolding saidText
+said-length said came p q h =
+    let l = take (said .acts .n) (said .acts .list) in
+    let most = entries-length l (said .sent .octets) (said .sent .n) (said .reason) came (omega arith) h in
+    of-two (eqb (said .refusal) 0) 33000 _ _
+    (omega (arith, most, length-take (said .acts .n) (said .acts .list), min-le-right (said .acts .n) (length (said .acts .list)), length-append (ascii "ok") (entriesOf l (said .sent .octets) (said .sent .n) (said .reason) came)))
+    (le-trans (refused-length (said .refusal)) (lit≤ tt))

@@ -1,4 +1,0 @@
-pub mod Interval
-pub mod Periodic
-pub mod Ones
-pub mod laws

@@ -1,2 +1,0 @@
-pub mod Pushes
-pub mod Few

@@ -1,2 +1,0 @@
-pub mod Twos
-pub mod Puts

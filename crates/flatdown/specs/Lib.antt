@@ -1,2 +1,0 @@
-pub mod Airs
-pub mod laws

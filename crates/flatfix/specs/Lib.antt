@@ -1,2 +1,0 @@
-pub mod Fixes
-pub mod laws

@@ -1,2 +1,0 @@
-pub mod Grounds
-pub mod laws

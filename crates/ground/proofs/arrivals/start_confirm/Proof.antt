@@ -1,0 +1,42 @@
+use borrow.Author.Tests.{not-true, not-false, eq-eqb, ne-eqb}
+use mathlib.Core.Path.{sym, _∙_}
+use Rattle.ground.specs.Arrivals.{confirmed}
+use borrow.Author.Needs.{needs}
+use Rattle.ground.proofs.arrivals.start_confirm.Statement.{statement}
+use Rattle.ground.proofs.arrivals.start_confirm.Tie as tie
+
+is-good-requires : tie.Need-is-good-requires
+is-good-requires c κs = search needs
+
+refuse-requires : tie.Need-refuse-requires
+refuse-requires c κs = search needs
+
+returns : tie.Need-returns
+unfolding confirmed
+returns c = rw (sym (c .before .before .is-good .ensures) ∙ not-true _ (c .before .if1 .taken)) (c .refuse .ensures)
+
+refuse-requires-2 : tie.Need-refuse-requires-2
+refuse-requires-2 c κs = search needs
+
+returns-2 : tie.Need-returns-2
+unfolding confirmed
+returns-2 c = rw (sym (c .before .before .before .is-good .ensures) ∙ not-false _ (c .before .before .if1 .left), ne-eqb _ 1 (c .before .if2 .taken)) (c .refuse2 .ensures)
+
+take-requires : tie.Need-take-requires
+take-requires c κs = search needs
+
+returns-3 : tie.Need-returns-3
+unfolding confirmed
+returns-3 c = rw (sym (c .before .before .before .is-good .ensures) ∙ not-false _ (c .before .before .if1 .left), eq-eqb _ 1 (c .before .if2 .left)) (c .take .ensures)
+
+pub start-confirm-spec : {M : Type 1} → statement M
+start-confirm-spec =
+    tie.close
+    (tie.spec
+    is-good-requires
+    refuse-requires
+    returns
+    refuse-requires-2
+    returns-2
+    take-requires
+    returns-3)

@@ -1,0 +1,47 @@
+use borrow.Author.Tests.{not-true, not-false, eq-eqb, ne-eqb}
+use mathlib.Core.Path.{sym, ap, _∙_}
+use Rattle.ground_answer.specs.Answers.{quietly}
+use Rattle.ground.specs.Endings.{endConfirmed}
+use borrow.Author.Needs.{needs}
+use Rattle.ground.proofs.endings.end_confirm.Statement.{statement}
+use Rattle.ground.proofs.endings.end_confirm.Tie as tie
+
+is-good-requires : tie.Need-is-good-requires
+is-good-requires c κs = search needs
+
+refuse-requires : tie.Need-refuse-requires
+refuse-requires c κs = search needs
+
+returns : tie.Need-returns
+unfolding endConfirmed
+returns c = rw (sym (c .before .before .is-good .ensures) ∙ not-true _ (c .before .if1 .taken)) (c .refuse .ensures)
+
+refuse-requires-2 : tie.Need-refuse-requires-2
+refuse-requires-2 c κs = search needs
+
+returns-2 : tie.Need-returns-2
+unfolding endConfirmed
+returns-2 c = rw (sym (c .before .before .before .is-good .ensures) ∙ not-false _ (c .before .before .if1 .left), ne-eqb _ 3 (c .before .if2 .taken)) (c .refuse2 .ensures)
+
+with-li-requires : tie.Need-with-li-requires
+with-li-requires c κs = search needs
+
+change-requires : tie.Need-change-requires
+change-requires c κs = search needs
+
+returns-3 : tie.Need-returns-3
+unfolding endConfirmed
+returns-3 c = rw (sym (c .before .before .before .before .is-good .ensures) ∙ not-false _ (c .before .before .before .if1 .left), eq-eqb _ 3 (c .before .before .if2 .left)) (c .change .ensures ∙ ap quietly (c .before .with-li .ensures))
+
+pub end-confirm-spec : {M : Type 1} → statement M
+end-confirm-spec =
+    tie.close
+    (tie.spec
+    is-good-requires
+    refuse-requires
+    returns
+    refuse-requires-2
+    returns-2
+    with-li-requires
+    change-requires
+    returns-3)

@@ -1,0 +1,54 @@
+-- Data from the aircraft, and the answer to our start: LI's table of 01. The order of refusals is 29, then 2.
+use mathlib.Core.List.{List, [], _∷_, _++_}
+use Prim.Native.Nat.{ℕ}
+use lib.Dec.{eqb}
+use Rattle.per.specs.Pdu as per
+use Rattle.per.specs.Pdu.{readPdu, got, refused}
+use Rattle.pdu.specs.declared.uplink.Ground.the-variants.{CancelEmergencyAck}
+use Rattle.pdu.specs.declared.downlink.AirPdu.{AirPdu}
+use Rattle.pdu.specs.DownlinkTable.{airC}
+use Rattle.ground_tables.specs.Tests.{pick}
+use Rattle.ground_tables.specs.Moves.{moveOf}
+use Rattle.ground_tables.specs.Acts.{acts}
+use Rattle.ground_tables.specs.declared.decide.Move.{Move}
+use Rattle.link.specs.Record.{LI-START, LI-ACTIVE, LI-END, idle, withLi}
+use Rattle.link.specs.Step.{actsOf, moved}
+use Rattle.link.specs.declared.record.Link.{Link}
+use Rattle.ground_answer.specs.Events.{airEvent}
+use Rattle.ground_answer.specs.Sent.{sent, letter}
+use Rattle.ground_answer.specs.declared.sent.Sent.{Sent}
+use Rattle.ground_answer.specs.Answers.{DATA-REQUEST, END-REQUEST, LATE, refusal, tells, checked, allowed}
+use Rattle.ground_answer.specs.Aborts.{aborted}
+use Rattle.ground_answer.specs.declared.answer.Answer.{Answer}
+
+-- "cancel-emergency, stop the timer, ind, send ack": the one send that data makes. It goes before an end request
+unfoldable pub ackOf : Move → Sent
+ackOf m = pick (m .send) (letter CancelEmergencyAck .sent) (sent [])
+
+-- "After confirm or data without an abort, if all four modules are IDLE, one end request is added at the end, END."
+unfoldable pub ended : Link → Move → Answer
+ended l m =
+    pick (idle (moved l m .at))
+    (tells (withLi (moved l m) LI-END) 0 (acts (actsOf m DATA-REQUEST ++ (END-REQUEST ∷ []))) (ackOf m))
+    (tells (moved l m) 0 (acts (actsOf m DATA-REQUEST)) (ackOf m))
+
+-- "Downlink data not listed for a state: abort 3."
+unfoldable pub passed : Link → ℕ → Answer
+passed l e = pick (eqb (moveOf (l .at) e .fate) 0) (ended (withLi l LI-ACTIVE) (moveOf (l .at) e)) (aborted l 3)
+
+-- "A value is taken only when the reading is good; otherwise a start confirm in START or data in ACTIVE ends in abort 2."
+unfoldable pub taken : Link → per.Answer AirPdu → Answer
+taken l (got a) = passed l (airEvent (a .kind))
+taken l (refused n) = aborted l 2
+
+-- "START: accepted start confirm passes its data, then ACTIVE"; "Link primitives not listed: refusal 2."
+unfoldable pub confirmed : Link → List ℕ → Answer
+confirmed l s = allowed l (eqb (l .li) LI-START) 2 (taken l (readPdu airC s))
+
+-- "END: data is set aside unread as "late""
+unfoldable pub lateData : Link → Answer
+lateData l = tells l 0 (acts (LATE ∷ [])) (sent [])
+
+-- "ACTIVE: data passes."
+unfoldable pub arrived : Link → List ℕ → Answer
+arrived l s = checked l (pick (eqb (l .li) LI-ACTIVE) (taken l (readPdu airC s)) (pick (eqb (l .li) LI-END) (lateData l) (refusal l 2)))

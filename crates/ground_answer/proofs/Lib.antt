@@ -1,0 +1,5 @@
+pub mod Letters
+pub mod Reasons
+pub mod Own
+pub mod Readings
+pub mod Laws

@@ -1,0 +1,55 @@
+-- What a call answers: the link after it, and what is said, namely the actions in order, the reason that an abort indication shows, and the octets of the PDU
+-- that goes. No call sends two: the octets belong to the first request among the actions. An indication (5) is of the octets that came with the call.
+use mathlib.Core.Bool.{Bool}
+use mathlib.Core.List.{[]}
+use Prim.Native.Nat.{ℕ}
+use Rattle.ground_tables.specs.Tests.{pick}
+use Rattle.ground_tables.specs.Acts.{acts}
+use Rattle.ground_tables.specs.declared.acts.Acts.{Acts}
+use Rattle.link.specs.Record.{good}
+use Rattle.link.specs.declared.record.Link.{Link}
+use Rattle.ground_answer.specs.Sent.{sent}
+use Rattle.ground_answer.specs.declared.sent.Sent.{Sent}
+use Rattle.ground_answer.specs.declared.answer.Answer.{Answer}
+
+-- entries of an action list; beside them 5 is an indication, 16 and a timer's number its stop, 32 and it its start
+abbrev pub START-REQUEST : ℕ
+START-REQUEST = 1
+
+abbrev pub DATA-REQUEST : ℕ
+DATA-REQUEST = 2
+
+abbrev pub END-REQUEST : ℕ
+END-REQUEST = 3
+
+abbrev pub ABORT-REQUEST : ℕ
+ABORT-REQUEST = 4
+
+abbrev pub ABORT-IND : ℕ
+ABORT-IND = 6
+
+abbrev pub PEER-ABORT-IND : ℕ
+PEER-ABORT-IND = 7
+
+abbrev pub LATE : ℕ
+LATE = 8
+
+-- "All return the number, no value and no actions; link and lent octets stay."
+abbrev pub refusal : Link → ℕ → Answer
+refusal l number = record { link = l; said = record { refusal = number; reason = 0; acts = acts []; sent = sent [] } }
+
+-- an accepted call
+abbrev pub tells : Link → ℕ → Acts → Sent → Answer
+tells l reason a s = record { link = l; said = record { refusal = 0; reason = reason; acts = a; sent = s } }
+
+-- an accepted call without an action
+abbrev pub quietly : Link → Answer
+quietly l = tells l 0 (acts []) (sent [])
+
+-- 29 before any other refusal of a call on a link
+abbrev pub checked : Link → Answer → Answer
+checked l a = pick (good l) a (refusal l 29)
+
+-- then the refusal of a call that is not permitted
+abbrev pub allowed : Link → Bool → ℕ → Answer → Answer
+allowed l may number a = checked l (pick may a (refusal l number))

@@ -1,0 +1,6 @@
+pub mod Events
+pub mod Sent
+pub mod Answers
+pub mod Aborts
+pub mod Fresh
+pub mod Clock

@@ -1,0 +1,70 @@
+// What a call answers.
+use crate::sent::Sent;
+use crate::sent::nothing;
+use ground_tables::acts::Acts;
+use ground_tables::acts::none;
+use link::record::Link;
+ghost use mathlib.Core.Path.{_≡_};
+ghost use Rattle.ground_answer.specs.Answers.{refusal, tells, quietly};
+
+// Entries of an action list beside link's own.
+pub const START_REQUEST: u8 = 1;
+
+pub const DATA_REQUEST: u8 = 2;
+
+pub const END_REQUEST: u8 = 3;
+
+pub const ABORT_REQUEST: u8 = 4;
+
+pub const ABORT_IND: u8 = 6;
+
+pub const PEER_ABORT_IND: u8 = 7;
+
+pub const LATE: u8 = 8;
+
+// `refusal` is 0 for a call that is accepted. `reason` is that of an abort indication. `sent` goes with the first request among the actions.
+pub struct Said {
+    pub refusal: u8,
+    pub reason: u32,
+    pub acts: Acts,
+    pub sent: Sent,
+}
+
+pub struct Answer {
+    pub link: Link,
+    pub said: Said,
+}
+
+// The link stays, and nothing is done.
+pub fn refuse(l: Link, number: u8) -> Answer
+    ensures { λ r. ⌜ r ≡ refusal l number ⌝ }
+{
+    let acts = none();
+    let sent = nothing();
+    let said = Said {
+        refusal: number,
+        reason: 0,
+        acts,
+        sent,
+    };
+    Answer { link: l, said }
+}
+
+pub fn tell(l: Link, reason: u32, acts: Acts, sent: Sent) -> Answer
+    ensures { λ r. ⌜ r ≡ tells l reason acts sent ⌝ }
+{
+    let said = Said {
+        refusal: 0,
+        reason,
+        acts,
+        sent,
+    };
+    Answer { link: l, said }
+}
+
+// An accepted call that does nothing but change the link.
+pub fn change(l: Link) -> Answer
+    ensures { λ r. ⌜ r ≡ quietly l ⌝ }
+{
+    tell(l, 0, none(), nothing())
+}

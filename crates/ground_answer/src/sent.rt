@@ -1,0 +1,45 @@
+// The octets of a ground PDU that goes.
+use pdu::encode_ground;
+use pdu::uplink::Ground;
+use per::pen::Written;
+ghost use mathlib.Core.Path.{_≡_};
+ghost use mathlib.Core.List.{[]};
+ghost use Rattle.ground_answer.specs.Sent.{sent, letter};
+
+// The first n octets; the others are 0. No ground PDU is longer than eight.
+pub struct Sent {
+    pub n: usize,
+    pub octets: [u8; 8],
+}
+
+// What writing a PDU gave: the refusal's number, or 0 and the octets.
+pub struct Letter {
+    pub refusal: u8,
+    pub sent: Sent,
+}
+
+pub fn nothing() -> Sent
+    ensures { λ r. ⌜ r ≡ sent [] ⌝ }
+{
+    Sent {
+        n: 0,
+        octets: [0; 8],
+    }
+}
+
+pub fn write(g: Ground) -> Letter
+    ensures { λ r. ⌜ r ≡ letter g ⌝ }
+{
+    let mut octets = [0u8; 8];
+    let w = encode_ground(g, &mut octets);
+    match w {
+        Written::Octets(n) => {
+            let sent = Sent { n, octets };
+            Letter { refusal: 0, sent }
+        }
+        Written::Refused(refusal) => {
+            let sent = nothing();
+            Letter { refusal, sent }
+        }
+    }
+}

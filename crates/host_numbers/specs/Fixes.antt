@@ -1,0 +1,50 @@
+-- A report as 25 numbers. 0 to 3 stand before it; 4 presence bits, 5 to 8 latitude (minus, degrees, minutes, tenth-seconds), 9 to 12 longitude alike,
+-- 13 level, 14 to 20 year, month, day, whether there are seconds, hours, minutes, seconds, 21 to 23 merit (accuracy, two booleans), 24 address.
+use mathlib.Core.Bool.{Bool, cond}
+use mathlib.Core.List.{List, [], _∷_}
+use Prim.Native.Nat.{ℕ}
+use lib.Dec.{ltb}
+use lib.ListN.{getD}
+use Rattle.pdu_parts.specs.declared.report.Fix.{Fix}
+use Rattle.pdu_parts.specs.declared.report.Report.{Report}
+use Rattle.host_numbers.specs.Numbers.{truth, numberBy, bitOf, twos, signedOf}
+
+-- kind, whether a positive ack goes with the report, event type, no list, and the report
+unfoldable pub flatFix : ℕ → Bool → ℕ → ℕ → Fix → ℕ → List ℕ
+flatFix kind ack event elements x address =
+    let la = x .position .latitude in
+    let lo = x .position .longitude in
+    let t = x .time in
+    let m = x .merit in
+    kind ∷ bitOf ack ∷ event ∷ 0 ∷ elements ∷ bitOf (la .minus) ∷ la .degrees ∷ la .minutes ∷ la .tenths ∷ bitOf (lo .minus) ∷ lo .degrees ∷ lo .minutes ∷ lo .tenths ∷ twos (x .position .level .number) ∷ t .year ∷ t .month ∷ t .day ∷ bitOf (t .«has_seconds») ∷ t .hours ∷ t .minutes ∷ t .seconds ∷ m .accuracy ∷ bitOf (m .units) ∷ bitOf (m .avoidance) ∷ address ∷ []
+
+-- and back. Numbers that are not there are 0. Two truth values stand beside the accuracy
+unfoldable pub accuracyAt : List ℕ → ℕ
+accuracyAt f = cond (ltb (getD f 22 0) 2) (numberBy f 23 21) 4294967295
+
+-- position, time and figure of merit
+unfoldable pub fixAt : List ℕ → Fix
+fixAt f =
+    record {
+      position =
+          record {
+            latitude = record { minus = truth (getD f 5 0); degrees = numberBy f 5 6; minutes = getD f 7 0; tenths = getD f 8 0 };
+            longitude = record { minus = truth (getD f 9 0); degrees = numberBy f 9 10; minutes = getD f 11 0; tenths = getD f 12 0 };
+            level = signedOf (getD f 13 0);
+          };
+      time =
+          record {
+            year = getD f 14 0;
+            month = getD f 15 0;
+            day = getD f 16 0;
+            «has_seconds» = truth (getD f 17 0);
+            hours = numberBy f 17 18;
+            minutes = getD f 19 0;
+            seconds = getD f 20 0;
+          };
+      merit = record { accuracy = accuracyAt f; units = truth (getD f 22 0); avoidance = truth (getD f 23 0) };
+    }
+
+-- a report's presence bits, these three, and the address
+unfoldable pub reportAt : List ℕ → Report
+reportAt f = record { elements = numberBy f 1 4; fix = fixAt f; address = getD f 24 0 }

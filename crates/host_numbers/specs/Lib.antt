@@ -1,0 +1,5 @@
+pub mod Numbers
+pub mod Grounds
+pub mod laws
+pub mod Fixes
+pub mod Airs

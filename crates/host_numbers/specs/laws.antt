@@ -1,0 +1,3 @@
+pub mod FlatupBack
+pub mod FlatfixBack
+pub mod FlatdownBack

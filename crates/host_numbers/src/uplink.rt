@@ -1,0 +1,123 @@
+// Ground PDUs as nine numbers. Missing numbers count as 0; numbers that name nothing make a value that no writer takes.
+use crate::numbers::number;
+use pdu::uplink::Ground;
+use pdu_parts::contract::Periodic;
+use pdu_parts::interval::Interval;
+ghost use mathlib.Core.Path.{_≡_};
+ghost use Rattle.host_numbers.specs.Grounds.{flatGround, flatModify, flatPeriodic, pairOf, scaleOf, timesOf, intervalOf, periodicAt, groundAt};
+
+fn scale_of(i: Interval) -> u32
+    ensures { λ r. ⌜ r ≡ scaleOf i ⌝ }
+{
+    match i {
+        Interval::Seconds(_) => 0,
+        Interval::Minutes(_) => 1,
+    }
+}
+
+fn times_of(i: Interval) -> u32
+    ensures { λ r. ⌜ r ≡ timesOf i ⌝ }
+{
+    match i {
+        Interval::Seconds(n) => n,
+        Interval::Minutes(n) => n,
+    }
+}
+
+// A kind and the one number that goes with it.
+fn pair(kind: u32, n: u32) -> [u32; 9]
+    ensures { λ r. ⌜ r ≡ pairOf kind n ⌝ }
+{
+    [kind, n, 0, 0, 0, 0, 0, 0, 0]
+}
+
+fn flat_modify(i: Interval) -> [u32; 9]
+    ensures { λ r. ⌜ r ≡ flatModify i ⌝ }
+{
+    [5, 0, scale_of(i), times_of(i), 0, 0, 0, 0, 0]
+}
+
+fn flat_periodic(a: Periodic) -> [u32; 9]
+    ensures { λ r. ⌜ r ≡ flatPeriodic a ⌝ }
+{
+    let interval = a.interval;
+    let scale = scale_of(interval);
+    let times = times_of(interval);
+    [
+        6,
+        a.elements,
+        scale,
+        times,
+        a.address,
+        a.profile,
+        a.ground,
+        a.air,
+        a.weather,
+    ]
+}
+
+pub fn flat_ground(g: Ground) -> [u32; 9]
+    ensures { λ r. ⌜ r ≡ flatGround g ⌝ }
+{
+    match g {
+        Ground::CancelAll => pair(0, 0),
+        Ground::CancelContract(n) => pair(1, n),
+        Ground::CancelEmergencyAck => pair(2, 0),
+        Ground::DemandContract(v) => pair(3, v),
+        Ground::EventContract(v) => pair(4, v),
+        Ground::ModifyEmergency(i) => flat_modify(i),
+        Ground::PeriodicContract(a) => flat_periodic(a),
+        Ground::Abort(n) => pair(7, n),
+    }
+}
+
+// A scale over 1 makes 0 seconds, which is out of range.
+fn interval_of(scale: u32, n: u32) -> Interval
+    ensures { λ r. ⌜ r ≡ intervalOf scale n ⌝ }
+{
+    match scale {
+        0 => Interval::Seconds(n),
+        1 => Interval::Minutes(n),
+        _ => Interval::Seconds(0),
+    }
+}
+
+fn periodic_at(f: &[u32]) -> Periodic
+    ensures { λ r. ⌜ r ≡ periodicAt (now (f .entry)) ⌝ }
+{
+    let elements = number(f, 1);
+    let interval = interval_of(number(f, 2), number(f, 3));
+    let address = number(f, 4);
+    let profile = number(f, 5);
+    let ground = number(f, 6);
+    let air = number(f, 7);
+    let weather = number(f, 8);
+    Periodic {
+        interval,
+        elements,
+        address,
+        profile,
+        ground,
+        air,
+        weather,
+    }
+}
+
+// A kind over 7 makes an abort of reason 8, which is no request and is out of range.
+pub fn ground_at(f: &[u32]) -> Ground
+    ensures { λ r. ⌜ r ≡ groundAt (now (f .entry)) ⌝ }
+{
+    let kind = number(f, 0);
+    let n = number(f, 1);
+    match kind {
+        0 => Ground::CancelAll,
+        1 => Ground::CancelContract(n),
+        2 => Ground::CancelEmergencyAck,
+        3 => Ground::DemandContract(n),
+        4 => Ground::EventContract(n),
+        5 => Ground::ModifyEmergency(interval_of(number(f, 2), number(f, 3))),
+        6 => Ground::PeriodicContract(periodic_at(f)),
+        7 => Ground::Abort(n),
+        _ => Ground::Abort(8),
+    }
+}

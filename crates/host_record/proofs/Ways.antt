@@ -1,0 +1,53 @@
+-- The ways out of a call on lent octets, one law each. Assumes nothing.
+use Prim.Native.Nat.{ℕ, _≤_, _<_}
+use mathlib.Core.Path.{_≡_, refl}
+use mathlib.Core.List.{List}
+use lib.ListN.{length}
+use lib.Seq.{sets}
+use borrow.Author.Tests.{eq-eqb, ne-eqb, lt-ltb, le-ltb}
+use Rattle.ground_answer.specs.declared.answer.Answer.{Answer}
+use Rattle.ground_answer.specs.declared.fresh.Opened.{Opened}
+use Rattle.ground.specs.declared.call.Call.{Call}
+use Rattle.ground_answer.specs.Fresh.{opened}
+use Rattle.ground.specs.Runs.{answered}
+use Rattle.host_record.specs.StoredLayout.{linkOf, recordOctets}
+use Rattle.host_record.specs.SaidLayout.{saidOctets}
+use Rattle.host_record.specs.Hosting.{hosted, told, Hosts, nineOf, made, opensInto, Makes}
+
+module _ (call : Call) (octets s o : List ℕ) where
+  pub no-record : (length s ≡ 77 → ⊥) → Hosts (hosted call octets s o) 29 s o
+  unfolding hosted
+  no-record h = rw (ne-eqb (length s) 77 h) (record { number-is = refl; link-is = refl; answer-is = refl })
+
+  module _ (h : length s ≡ 77) (a : Answer) (e : a ≡ answered (linkOf s) call octets) where
+    pub refused-so : (a .said .refusal ≡ 0 → ⊥) → Hosts (hosted call octets s o) (a .said .refusal) s o
+    unfolding hosted told
+    refused-so n = rw (eq-eqb (length s) 77 h, ← e, ne-eqb (a .said .refusal) 0 n) (record { number-is = refl; link-is = refl; answer-is = refl })
+
+    module _ (n : a .said .refusal ≡ 0) where
+      pub no-room : length o < 22 → Hosts (hosted call octets s o) 6 s o
+      unfolding hosted told
+      no-room l = rw (eq-eqb (length s) 77 h, ← e, eq-eqb (a .said .refusal) 0 n, lt-ltb (length o) 22 l) (record { number-is = refl; link-is = refl; answer-is = refl })
+
+      pub accepted : 22 ≤ length o → (x y : List ℕ) → x ≡ recordOctets (a .link) → y ≡ sets o 0 (saidOctets (a .said)) → Hosts (hosted call octets s o) 0 x y
+      unfolding hosted told
+      accepted l x y p q = rw (eq-eqb (length s) 77 h, ← e, eq-eqb (a .said .refusal) 0 n, le-ltb (length o) 22 l) (record { number-is = refl; link-is = p; answer-is = q })
+
+module _ (f s : List ℕ) where
+  pub not-nine : (length f ≡ 9 → ⊥) → Makes (made f s) 3 s
+  unfolding made
+  not-nine h = rw (ne-eqb (length f) 9 h) (record { number-is = refl; link-is = refl })
+
+  module _ (h : length f ≡ 9) (o : Opened) (e : o ≡ opened (nineOf f)) where
+    pub not-made : (o .refusal ≡ 0 → ⊥) → Makes (made f s) (o .refusal) s
+    unfolding made opensInto
+    not-made n = rw (eq-eqb (length f) 9 h, ← e, ne-eqb (o .refusal) 0 n) (record { number-is = refl; link-is = refl })
+
+    module _ (n : o .refusal ≡ 0) where
+      pub no-place : (length s ≡ 77 → ⊥) → Makes (made f s) 6 s
+      unfolding made opensInto
+      no-place k = rw (eq-eqb (length f) 9 h, ← e, eq-eqb (o .refusal) 0 n, ne-eqb (length s) 77 k) (record { number-is = refl; link-is = refl })
+
+      pub is-made : length s ≡ 77 → (x : List ℕ) → x ≡ recordOctets (o .link) → Makes (made f s) 0 x
+      unfolding made opensInto
+      is-made k x p = rw (eq-eqb (length f) 9 h, ← e, eq-eqb (o .refusal) 0 n, eq-eqb (length s) 77 k) (record { number-is = refl; link-is = p })

@@ -1,0 +1,70 @@
+use mathlib.Core.Path.{ap, _∙_}
+use Rattle.link.specs.declared.record.Link.{Link}
+use Rattle.host_record.proofs.Puts.{saved-record}
+use Rattle.ground.specs.Runs.{answered}
+use Rattle.host_record.proofs.Ways.{no-record, refused-so, no-room, accepted}
+use borrow.Author.Needs.{needs}
+use Rattle.host_record.proofs.step.step.Statement.{statement}
+use Rattle.host_record.proofs.step.step.Tie as tie
+
+returns : tie.Need-returns
+returns c = no-record (c .before .before .before .before .args .call) (c .before .before .before .before .args .octets .now) (c .before .before .before .before .args .link .now) (c .before .before .before .before .args .out .now) (c .if1 .taken)
+
+load-requires : tie.Need-load-requires
+load-requires c κs = search needs
+
+answer-requires : tie.Need-answer-requires
+answer-requires c κs = search needs
+
+same-length : tie.Need-same-length
+same-length c = search needs
+
+returns-2 : tie.Need-returns-2
+returns-2 c =
+    let k = c .before .before .before .before .before .before .before .before .before .args in
+    let a = c .before .before .answer in
+    refused-so (k .call) (k .octets .now) (k .link .now) (k .out .now) (c .before .before .before .before .before .if1 .left) (a .result) (a .ensures ∙ ap (λ (l : Link). answered l (k .call) (k .octets .now)) (c .before .before .before .load .ensures)) (c .if2 .taken)
+
+same-length-2 : tie.Need-same-length-2
+same-length-2 c = search needs
+
+returns-3 : tie.Need-returns-3
+returns-3 c =
+    let k = c .before .before .before .before .before .before .before .before .before .before .args in
+    let a = c .before .before .before .answer in
+    no-room (k .call) (k .octets .now) (k .link .now) (k .out .now) (c .before .before .before .before .before .before .if1 .left) (a .result) (a .ensures ∙ ap (λ (l : Link). answered l (k .call) (k .octets .now)) (c .before .before .before .before .load .ensures)) (c .before .if2 .left) (c .if3 .taken)
+
+save-requires : tie.Need-save-requires
+save-requires c κs = search needs
+
+put-said-requires : tie.Need-put-said-requires
+put-said-requires c κs = search needs
+
+same-length-3 : tie.Need-same-length-3
+same-length-3 c = search needs
+
+same-length-4 : tie.Need-same-length-4
+same-length-4 c = search needs
+
+returns-4 : tie.Need-returns-4
+returns-4 c =
+    let k = c .before .before .before .before .before .before .before .before .before .before .before .before .before .before .before .before .before .before .before .args in
+    let a = c .before .before .before .before .before .before .before .before .before .before .before .before .answer in
+    accepted (k .call) (k .octets .now) (k .link .now) (k .out .now) (c .before .before .before .before .before .before .before .before .before .before .before .before .before .before .before .if1 .left) (a .result) (a .ensures ∙ ap (λ (l : Link). answered l (k .call) (k .octets .now)) (c .before .before .before .before .before .before .before .before .before .before .before .before .before .load .ensures)) (c .before .before .before .before .before .before .before .before .before .before .if2 .left) (c .before .before .before .before .before .before .before .before .before .if3 .left) _ _ (c .before .before .before .before .before .before .save .ensures ∙ saved-record _ _ (c .before .before .before .before .before .before .before .before .before .before .before .before .before .before .before .if1 .left)) (c .before .before .put-said .ensures)
+
+pub step-spec : {M : Type 1} → statement M
+step-spec =
+    tie.close
+    (tie.spec
+    returns
+    load-requires
+    answer-requires
+    same-length
+    returns-2
+    same-length-2
+    returns-3
+    save-requires
+    put-said-requires
+    same-length-3
+    same-length-4
+    returns-4)

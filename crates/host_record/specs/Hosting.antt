@@ -1,0 +1,69 @@
+-- Calls on a record that the host keeps as octets. "link and lent octets stay" where a call is refused.
+use mathlib.Core.Path.{_≡_}
+use mathlib.Core.List.{List, [], _∷_}
+use Prim.Native.Nat.{ℕ}
+use lib.Dec.{eqb, ltb}
+use lib.ListN.{length, getD, replicate}
+use lib.Seq.{sets}
+use Rattle.ground_tables.specs.Tests.{pick}
+use Rattle.ground_answer.specs.declared.answer.Answer.{Answer}
+use Rattle.ground_answer.specs.declared.fresh.Opened.{Opened}
+use Rattle.ground.specs.declared.call.Call.{Call}
+use Rattle.ground_answer.specs.Fresh.{opened}
+use Rattle.ground.specs.Runs.{answered, Made}
+use Rattle.host_record.specs.StoredLayout.{linkOf, recordOctets}
+use Rattle.host_record.specs.SaidLayout.{saidOctets}
+
+-- the number that a call gives, and the two buffers after it
+pub record Done : Type 0 where
+  pub number : ℕ
+  pub link : List ℕ
+  pub answer : List ℕ
+
+-- a refusal: both buffers stay
+abbrev pub left : ℕ → List ℕ → List ℕ → Done
+left n s o = record { number = n; link = s; answer = o }
+
+-- an accepted call writes both buffers; 6 comes last
+unfoldable pub told : List ℕ → List ℕ → Answer → Done
+told s o a =
+    pick (eqb (a .said .refusal) 0)
+    (pick (ltb (length o) 22) (left 6 s o) (record { number = 0; link = recordOctets (a .link); answer = sets o 0 (saidOctets (a .said)) }))
+    (left (a .said .refusal) s o)
+
+-- the call by value on the record that the octets spell; other than 77 octets are no record: 29
+unfoldable pub hosted : Call → List ℕ → List ℕ → List ℕ → Done
+hosted call octets s o = pick (eqb (length s) 77) (told s o (answered (linkOf s) call octets)) (left 29 s o)
+
+-- the record after a sequence of calls, each with room for its answer
+unfoldable pub kept : List ℕ → List Made → List ℕ
+kept s [] = s
+kept s (c ∷ cs) = kept (hosted (c .call) (c .octets) s (replicate 22 0) .link) cs
+
+pub record Hosts (d : Done) (r : ℕ) (link answer : List ℕ) : Type 0 where
+  pub number-is : r ≡ d .number
+  pub link-is : link ≡ d .link
+  pub answer-is : answer ≡ d .answer
+
+-- ---- a new link
+unfoldable pub nineOf : List ℕ → List ℕ
+nineOf f =
+    getD f 0 0 ∷ getD f 1 0 ∷ getD f 2 0 ∷ getD f 3 0 ∷ getD f 4 0 ∷ getD f 5 0 ∷ getD f 6 0 ∷ getD f 7 0 ∷ getD f 8 0 ∷ []
+
+pub record Opening : Type 0 where
+  pub number : ℕ
+  pub link : List ℕ
+
+unfoldable pub opensInto : List ℕ → Opened → Opening
+opensInto s o =
+    pick (eqb (o .refusal) 0)
+    (pick (eqb (length s) 77) (record { number = 0; link = recordOctets (o .link) }) (record { number = 6; link = s }))
+    (record { number = o .refusal; link = s })
+
+-- other than nine settings: 3
+unfoldable pub made : List ℕ → List ℕ → Opening
+made f s = pick (eqb (length f) 9) (opensInto s (opened (nineOf f))) (record { number = 3; link = s })
+
+pub record Makes (d : Opening) (r : ℕ) (link : List ℕ) : Type 0 where
+  pub number-is : r ≡ d .number
+  pub link-is : link ≡ d .link

@@ -1,0 +1,4 @@
+pub mod StoredLayout
+pub mod laws
+pub mod SaidLayout
+pub mod Hosting

@@ -1,0 +1,95 @@
+// The link record in 77 octets, for a host that keeps it in its own memory.
+use crate::put::put_words;
+use link::record::Link;
+ghost use mathlib.Core.Path.{_≡_};
+ghost use Prim.Native.Nat.{_≤_};
+ghost use lib.ListN.{length, getD};
+ghost use lib.Seq.{sets};
+ghost use Rattle.host_record.specs.StoredLayout.{wordAt, words, four, linkOf, recordOctets, saved};
+
+pub const RECORD: usize = 77;
+
+fn octet(s: &[u8], i: usize) -> u8
+    ensures { λ r. ⌜ r ≡ getD (now (s .entry)) i 0 ⌝ }
+{
+    if i < s.len() { s[i] } else { 0 }
+}
+
+fn wide(s: &[u8], i: usize) -> u32
+    ensures { λ r. ⌜ (r ≡ getD (now (s .entry)) i 0) × (r ≤ 255) ⌝ }
+{
+    let o = octet(s, i);
+    o as u32
+}
+
+fn word(s: &[u8], at: usize) -> u32
+    requires { ⌜ at ≤ 77 ⌝ }
+    ensures { λ r. ⌜ r ≡ wordAt (now (s .entry)) at ⌝ }
+{
+    let a = wide(s, at);
+    let b = wide(s, at + 1);
+    let c = wide(s, at + 2);
+    let d = wide(s, at + 3);
+    ((a * 256 + b) * 256 + c) * 256 + d
+}
+
+fn words_at(s: &[u8], at: usize) -> [u32; 9]
+    requires { ⌜ at ≤ 36 ⌝ }
+    ensures { λ r. ⌜ r ≡ words (now (s .entry)) at 9 ⌝ }
+{
+    let mut ws = [0u32; 9];
+    let mut i: usize = 0;
+    while i < 9 {
+        ws[i] = word(s, at + i * 4);
+        i += 1;
+    }
+    ws
+}
+
+// The record that the octets spell, good or not.
+pub fn load(s: &[u8]) -> Link
+    ensures { λ r. ⌜ r ≡ linkOf (now (s .entry)) ⌝ }
+{
+    let setting = words_at(s, 0);
+    let left = words_at(s, 36);
+    let at = [octet(s, 72), octet(s, 73), octet(s, 74), octet(s, 75)];
+    let li = octet(s, 76);
+    Link {
+        setting,
+        left,
+        at,
+        li,
+    }
+}
+
+fn put_states(out: &mut [u8], at: [u8; 4], li: u8)
+    requires { ⌜ length (now out) ≡ 77 ⌝ }
+    ensures { λ _. ⌜ now (out .exit) ≡ sets (now (out .entry)) 72 (four at li) ⌝ }
+{
+    out[72] = at[0];
+    out[73] = at[1];
+    out[74] = at[2];
+    out[75] = at[3];
+    out[76] = li;
+}
+
+fn store(l: Link, out: &mut [u8])
+    requires { ⌜ length (now out) ≡ 77 ⌝ }
+    ensures { λ _. ⌜ now (out .exit) ≡ recordOctets l ⌝ }
+{
+    let setting = l.setting;
+    let left = l.left;
+    let at = l.at;
+    put_words(out, 0, setting);
+    put_words(out, 36, left);
+    put_states(out, at, l.li);
+}
+
+// Octets that are no record's stay.
+pub fn save(l: Link, out: &mut [u8])
+    ensures { λ _. ⌜ now (out .exit) ≡ saved l (now (out .entry)) ⌝ }
+{
+    if out.len() == RECORD {
+        store(l, out);
+    }
+}

@@ -1,4 +1,0 @@
-pub mod Letters
-pub mod Reasons
-pub mod Own
-pub mod Readings

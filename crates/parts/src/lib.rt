@@ -1,3 +1,0 @@
-// What aircraft PDUs hold beside their index: reports with an ack, acks, notices.
-pub mod acks;
-pub mod told;

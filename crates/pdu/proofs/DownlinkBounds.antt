@@ -1,0 +1,96 @@
+-- Aircraft PDUs have the writer's own form alone, and fit a sheet. Assumes nothing.
+use Prim.Native.Nat.{ℕ, zero, suc}
+use lib.Dec.{lit≤}
+use Rattle.per.specs.Bits.{width, widthIn}
+use Rattle.per.specs.Codec.{Within}
+use Rattle.per.specs.Formats.{flagField, numField}
+use Rattle.per.proofs.Within.{forms}
+use Rattle.per.proofs.Longest.{Most, up, a-field, a-pair, a-like, a-mark, a-null, a-when, an-alt, an-unused, a-choice, a-list}
+use Rattle.pdu_parts.specs.Lists.{listed, entryC, entriesC}
+use Rattle.pdu_parts.proofs.ListsBounds.{listed-own, names-most}
+use Rattle.pdu_parts.proofs.FieldsBounds.{report-own, emergency-own, report-most, emergency-most}
+use Rattle.pdu_parts.specs.Parts.{ackedC, ackedEmergencyC, eventReportC, negativeC, entryTop, noncomplianceC}
+use Rattle.pdu.specs.DownlinkTable.{airAlt, airC}
+
+-- ---- one form
+acked-own : (n : ℕ) → Within n ackedC
+unfolding ackedC
+acked-own n = search (forms, report-own) depth 12
+
+acked-emergency-own : (n : ℕ) → Within n ackedEmergencyC
+unfolding ackedEmergencyC
+acked-emergency-own n = search (forms, emergency-own) depth 12
+
+event-own : (n : ℕ) → Within n eventReportC
+unfolding eventReportC
+event-own n = search (forms, report-own) depth 12
+
+negative-own : (n : ℕ) → Within n negativeC
+unfolding negativeC
+negative-own n = search (forms, listed-own) depth 12
+
+noncompliance-own : (n : ℕ) → Within n noncomplianceC
+unfolding noncomplianceC
+noncompliance-own n = search (forms, listed-own) depth 12
+
+air-each : (n i : ℕ) → Within n (airAlt i .codec)
+unfolding airAlt
+air-each n zero = search forms
+air-each n (suc zero) = search (forms, acked-own)
+air-each n (suc (suc zero)) = search (forms, acked-emergency-own)
+air-each n (suc (suc (suc zero))) = search (forms, event-own)
+air-each n (suc (suc (suc (suc zero)))) = search (forms, negative-own)
+air-each n (suc (suc (suc (suc (suc zero))))) = search (forms, noncompliance-own)
+air-each n (suc (suc (suc (suc (suc (suc zero)))))) = search (forms, acked-own)
+air-each n (suc (suc (suc (suc (suc (suc (suc zero))))))) = search forms
+air-each n (suc (suc (suc (suc (suc (suc (suc (suc zero)))))))) = search forms
+air-each n (suc (suc (suc (suc (suc (suc (suc (suc (suc i))))))))) = search forms
+
+pub air-own : Within 0 airC
+unfolding airC
+air-own = search (forms, air-each)
+
+-- ---- at most 916 bits, those of a negative ack with 16 names
+acked-most : Most 136 ackedC
+unfolding ackedC
+acked-most = up (lit≤ tt) (a-like _ _ _ _ (a-pair _ (a-field flagField) (λ a. report-most)))
+
+acked-emergency-most : Most 130 ackedEmergencyC
+unfolding ackedEmergencyC
+acked-emergency-most = up (lit≤ tt) (a-like _ _ _ _ (a-pair _ (a-field flagField) (λ a. emergency-most)))
+
+event-most : Most 141 eventReportC
+unfolding eventReportC width widthIn
+event-most = up (lit≤ tt) (a-like _ _ _ _ (a-pair _ (a-field flagField) (λ a. a-pair _ (a-mark {n = 5} (lit≤ tt) (a-field (numField 0 11))) (λ b. report-most))))
+
+negative-most : Most 911 negativeC
+unfolding negativeC width widthIn
+negative-most =
+    up (lit≤ tt) (a-like _ _ _ _ (a-pair _ (a-mark {n = 4} (lit≤ tt) (a-field (numField 0 7))) (λ a. a-pair _ (a-mark {n = 3} (lit≤ tt) (a-field (numField 0 3))) (λ r. a-when _ _ names-most))))
+
+entries-most : (kind : ℕ) → Most 88 (entriesC (entryTop kind))
+unfolding listed entryC width widthIn
+entries-most zero = up (lit≤ tt) (a-like _ _ _ _ (a-list 1 (a-mark {n = 5} (lit≤ tt) (a-field (numField 0 6)))))
+entries-most (suc zero) = up (lit≤ tt) (a-like _ _ _ _ (a-list 1 (a-mark {n = 5} (lit≤ tt) (a-field (numField 0 10)))))
+entries-most (suc (suc kind)) = up (lit≤ tt) (a-like _ _ _ _ (a-list 1 (a-mark {n = 5} (lit≤ tt) (a-field (numField 0 7)))))
+
+noncompliance-most : Most 90 noncomplianceC
+unfolding noncomplianceC width widthIn
+noncompliance-most = up (lit≤ tt) (a-pair _ (a-field (numField 0 2)) entries-most)
+
+air-bits : (i : ℕ) → Most 911 (airAlt i .codec)
+unfolding airAlt width widthIn
+air-bits zero = an-alt _ _ _ _ _ _ (a-null _ 911)
+air-bits (suc zero) = an-alt _ _ _ _ _ _ (a-mark (lit≤ tt) acked-most)
+air-bits (suc (suc zero)) = an-alt _ _ _ _ _ _ (a-mark (lit≤ tt) acked-emergency-most)
+air-bits (suc (suc (suc zero))) = an-alt _ _ _ _ _ _ (a-mark (lit≤ tt) event-most)
+air-bits (suc (suc (suc (suc zero)))) = an-alt _ _ _ _ _ _ negative-most
+air-bits (suc (suc (suc (suc (suc zero))))) = an-alt _ _ _ _ _ _ (a-mark (lit≤ tt) noncompliance-most)
+air-bits (suc (suc (suc (suc (suc (suc zero)))))) = an-alt _ _ _ _ _ _ (a-mark (lit≤ tt) acked-most)
+air-bits (suc (suc (suc (suc (suc (suc (suc zero))))))) = an-alt _ _ _ _ _ _ (a-mark (lit≤ tt) (a-field (numField 0 7)))
+air-bits (suc (suc (suc (suc (suc (suc (suc (suc zero)))))))) = an-alt _ _ _ _ _ _ (a-mark (lit≤ tt) (a-field (numField 0 7)))
+air-bits (suc (suc (suc (suc (suc (suc (suc (suc (suc i))))))))) = an-unused _ 911
+
+pub air-most : Most 916 airC
+unfolding airC width widthIn
+air-most = a-mark (lit≤ tt) (a-choice _ _ _ air-bits)

@@ -1,0 +1,100 @@
+-- What reads back of a ground PDU: all of it; of a periodic contract all but the moduli that are absent, which read as 0. Assumes nothing.
+use Prim.Native.Nat.{ℕ, _+_, _*_, _/_, _%_, _^_, _≤_, _<_}
+use mathlib.Core.Path.{_≡_, refl, sym, ap, _∙_}
+use mathlib.Core.Bool.{Bool, true, false, cond}
+use native.Mathlib.Omega.{arith}
+use lib.Bits.{bitAnd, and-block, and-high, and-zero-r}
+use lib.Dec.{lit<}
+use borrow.Author.Tests.{ne-eqb}
+use Rattle.per.specs.Formats.{field, dep, via, only, absent, when, has, num, altCodec, choice}
+use Rattle.pdu_parts.specs.declared.interval.Interval.{Interval}
+use Rattle.pdu_parts.specs.declared.contract.Periodic.{Periodic}
+use Rattle.pdu.specs.declared.uplink.Ground.{Ground}
+use Rattle.pdu.specs.declared.uplink.Ground.the-variants.{CancelAll, CancelContract, CancelEmergencyAck, DemandContract, EventContract, ModifyEmergency, PeriodicContract, Abort}
+use Rattle.pdu_parts.specs.Interval.{fiveMinutes, isFive, sentC, sentBits}
+use Rattle.pdu_parts.specs.Periodic.{periodicC}
+use Rattle.pdu.specs.UplinkTable.{groundTag, groundAlt, groundC}
+use Rattle.pdu_parts.proofs.Intervals.{interval-norm, low-bits, five-is}
+
+when-norm : (b : Bool) (lo hi n : ℕ) → when b 0 (num lo hi) .norm n ≡ cond b n 0
+unfolding when absent field
+when-norm true lo hi n = refl
+when-norm false lo hi n = refl
+
+-- the presence bit of the interval is above those of the moduli
+has-more : (w e : ℕ) → w < 2 ^ 7 → e ≤ 127 → has w (128 + e) ≡ has w e
+unfolding has
+has-more w e l h =
+    let b : bitAnd (1 * 2 ^ 7 + e) (0 * 2 ^ 7 + w) ≡ bitAnd 1 0 * 2 ^ 7 + bitAnd e w = and-block 7 1 0 e w (omega arith) l in
+    let z : 0 * 128 + w ≡ w = omega arith in
+    let q : bitAnd (128 + e) w ≡ bitAnd e w = sym (ap (λ (x : ℕ). bitAnd (128 + e) x) z) ∙ b ∙ omega (arith, and-zero-r 1) in
+    rw q
+
+has-sent : (five : Bool) (w e : ℕ) → w < 2 ^ 7 → e ≤ 127 → has w (sentBits five e) ≡ has w e
+unfolding sentBits
+has-sent true w e l h = refl
+has-sent false w e l h = has-more w e l h
+
+sent-low : (five : Bool) (e : ℕ) → e ≤ 127 → sentBits five e % 128 ≡ e
+unfolding sentBits
+sent-low true e h = omega arith
+sent-low false e h = omega arith
+
+top-set : (e : ℕ) → e ≤ 127 → has 128 (128 + e) ≡ true
+unfolding has
+top-set e h =
+    let a : bitAnd (128 + e) 128 ≡ (128 + e) / 128 % 2 * 128 = and-high (128 + e) 1 7 in
+    let d : (128 + e) / 128 ≡ 1 = omega arith in
+    let m : (128 + e) / 128 % 2 ≡ 1 = ap (λ (n : ℕ). n % 2) d in
+    let z : bitAnd (128 + e) 128 ≡ 0 → ⊥ = λ q. omega (arith, a, m, q) in
+    rw (ne-eqb (bitAnd (128 + e) 128) 0 z)
+
+-- the interval reads back, sent or not
+interval-sent : (b : Bool) (i : Interval) (e : ℕ) → isFive i ≡ b → e ≤ 127 → when (has 128 (sentBits b e)) fiveMinutes sentC .norm i ≡ i
+unfolding when sentC only absent sentBits
+interval-sent true i e q h = rw (low-bits e h) (five-is i q)
+interval-sent false i e q h = rw (top-set e h) (interval-norm i)
+
+pub periodic-norm : (a : Periodic) → a .elements ≤ 127 → periodicC .norm a ≡ record {
+  interval = a .interval;
+  elements = a .elements;
+  address = cond (has 64 (a .elements)) (a .address) 0;
+  profile = cond (has 32 (a .elements)) (a .profile) 0;
+  ground = cond (has 16 (a .elements)) (a .ground) 0;
+  air = cond (has 8 (a .elements)) (a .air) 0;
+  weather = cond (has 4 (a .elements)) (a .weather) 0;
+}
+unfolding periodicC via dep field only
+periodic-norm a h =
+    let f = isFive (a .interval) in
+    let e = a .elements in
+    rw (
+      sent-low f e h,
+      interval-sent f (a .interval) e refl h,
+      when-norm (has 64 (sentBits f e)) 1 255 (a .address),
+      has-sent f 64 e (lit< tt) h,
+      when-norm (has 32 (sentBits f e)) 1 255 (a .profile),
+      has-sent f 32 e (lit< tt) h,
+      when-norm (has 16 (sentBits f e)) 1 255 (a .ground),
+      has-sent f 16 e (lit< tt) h,
+      when-norm (has 8 (sentBits f e)) 1 255 (a .air),
+      has-sent f 8 e (lit< tt) h,
+      when-norm (has 4 (sentBits f e)) 1 255 (a .weather),
+      has-sent f 4 e (lit< tt) h,
+    )
+
+-- every other ground PDU reads back as it is
+pub ground-norm : (g : Ground) → (groundTag g ≡ 6 → ⊥) → groundC .norm g ≡ g
+unfolding groundC groundAlt choice altCodec via dep field only absent
+ground-norm CancelAll h = refl
+ground-norm (CancelContract n) h = refl
+ground-norm CancelEmergencyAck h = refl
+ground-norm (DemandContract v) h = refl
+ground-norm (EventContract v) h = refl
+ground-norm (ModifyEmergency i) h = ap ModifyEmergency (interval-norm i)
+ground-norm (PeriodicContract a) h = absurd (h refl)
+ground-norm (Abort n) h = refl
+
+pub ground-periodic-norm : (a : Periodic) → groundC .norm (PeriodicContract a) ≡ PeriodicContract (periodicC .norm a)
+unfolding groundC groundAlt choice altCodec via dep field only absent
+ground-periodic-norm a = refl

@@ -1,0 +1,41 @@
+-- The language's count of ones is the count of the bits that are 1. Assumes nothing.
+use Prim.Native.Nat.{ℕ, zero, suc, _+_, _/_, _%_, _^_, _≤_, _<_}
+use mathlib.Core.Path.{_≡_, ap, _∙_}
+use mathlib.Core.Bool.{Bool, true, false}
+use mathlib.Core.List.{List, [], _∷_, _++_}
+use native.Mathlib.Nat.{pow-suc}
+use native.Mathlib.Omega.{arith}
+use lib.Count.{ones, ones-step, ones-le}
+use Rattle.per.specs.Bits.{ofBit, toBit, toBits}
+use Rattle.per.specs.laws.Bits.{of-to}
+use Rattle.pdu_parts.specs.Ones.{trues, onesOf, askedPeriodic}
+use Rattle.pdu_parts.specs.declared.contract.Periodic.{Periodic}
+use Rattle.pdu_parts.specs.Interval.{isFive}
+
+trues-snoc : (bs : List Bool) (b : Bool) → trues (bs ++ (b ∷ [])) ≡ trues bs + ofBit b
+unfolding trues
+trues-snoc [] b = omega arith
+trues-snoc (x ∷ bs) b = omega (arith, trues-snoc bs b)
+
+ones-bits : (w v : ℕ) → v < 2 ^ w → ones v ≡ trues (toBits w v)
+unfolding toBits trues ones
+ones-bits zero v h = let z : v ≡ 0 = omega arith in rw z
+ones-bits (suc w) v h =
+    let i = ones-bits w (v / 2) (omega (arith, pow-suc 2 w)) in
+    let b : ofBit (toBit (v % 2)) ≡ v % 2 = of-to (v % 2) (omega arith) in
+    ones-step v ∙ omega (arith, i, b, trues-snoc (toBits w (v / 2)) (toBit (v % 2)))
+
+pub count-is : (v : ℕ) → v < 2 ^ 32 → ones v ≡ onesOf v
+unfolding onesOf
+count-is v h = ones-bits 32 v h
+
+pub count-few : (v : ℕ) → v < 2 ^ 32 → ones v ≤ 32
+count-few v h = ones-le 32 v h
+
+pub asked-five : (a : Periodic) (b : Bool) → b ≡ isFive (a .interval) → b ≡ true → a .elements < 2 ^ 32 → ones (a .elements) ≡ askedPeriodic a
+unfolding askedPeriodic ofBit
+asked-five a b e t h = rw (← e, t) (count-is (a .elements) h ∙ omega arith)
+
+pub asked-other : (a : Periodic) (b : Bool) → b ≡ isFive (a .interval) → b ≡ false → a .elements < 2 ^ 32 → ones (a .elements) + 1 ≡ askedPeriodic a
+unfolding askedPeriodic ofBit
+asked-other a b e t h = rw (← e, t) (ap (λ (n : ℕ). n + 1) (count-is (a .elements) h))

@@ -1,0 +1,70 @@
+// The reader: it keeps hold of the lent octets and its bit place. Each function takes it apart and calls the covered cursor on the two.
+use pdu::uplink::GroundRead;
+use pdu::uplink::read_ground;
+use per::cursor::Cursor;
+use per::cursor::Num;
+ghost use mathlib.Core.Path.{_≡_};
+ghost use Rattle.per.specs.Pdu.{window, finish};
+ghost use Rattle.per.specs.Formats.{run, num};
+ghost use Rattle.per.specs.Reading.{Reads};
+ghost use Rattle.pdu.specs.UplinkTable.{groundC};
+
+// The octets of a PDU, and the place in them with the first refusal met.
+pub struct Reader<'a> {
+    pub octets: &'a [u8],
+    pub place: Cursor,
+}
+
+impl<'a> Reader<'a> {
+    // Of the octets, at a place: `Cursor::start` of them gives the first.
+    pub fn new(octets: &'a [u8], place: Cursor) -> Reader<'a>
+        ensures { λ r. ⌜ (r .octets ≡ octets .entry) × (r .place ≡ place) ⌝ }
+    {
+        Reader { octets, place }
+    }
+
+    // A run of w bits: the cursor's answer.
+    pub fn take(self, w: usize) -> Num
+        ensures { λ r. ⌜ Reads (run w) (now (self .entry .octets)) (self .entry .place) (r .value) (r .next) ⌝ }
+    {
+        self.place.take(self.octets, w)
+    }
+
+    // A whole number in lo..hi.
+    pub fn num(self, lo: u32, hi: u32) -> Num
+        ensures { λ r. ⌜ Reads (num lo hi) (now (self .entry .octets)) (self .entry .place) (r .value) (r .next) ⌝ }
+    {
+        self.place.num(self.octets, lo, hi)
+    }
+
+    // What is left after the PDU: 13 for filling that is not zero, 14 for octets behind it.
+    pub fn finish(self) -> Cursor
+        ensures { λ r. ⌜ r ≡ finish (window (now (self .entry .octets))) (self .entry .place) ⌝ }
+    {
+        self.place.finish(self.octets)
+    }
+
+    // A whole ground PDU.
+    pub fn ground(self) -> GroundRead
+        ensures { λ r. ⌜ Reads groundC (now (self .entry .octets)) (self .entry .place) (r .value) (r .next) ⌝ }
+    {
+        read_ground(self.place, self.octets)
+    }
+
+    // The same octets, at another place.
+    pub fn moved(self, place: Cursor) -> Reader<'a>
+        ensures { λ r. ⌜ (r .octets ≡ self .entry .octets) × (r .place ≡ place) ⌝ }
+    {
+        Reader {
+            octets: self.octets,
+            place,
+        }
+    }
+}
+
+// A ground PDU through the reader, for callers that hold no reader.
+pub fn held_ground(s: &[u8], c: Cursor) -> GroundRead
+    ensures { λ r. ⌜ Reads groundC (now (s .entry)) c (r .value) (r .next) ⌝ }
+{
+    Reader::new(s, c).ground()
+}

@@ -1,0 +1,44 @@
+use borrow.Author.Needs.{needs}
+use Rattle.pdu_words.proofs.lines.run.Statement.{statement}
+use Rattle.pdu_words.proofs.lines.run.Tie as tie
+
+abbrev Inv-loop : tie.InvT-loop
+Inv-loop task chunk₀ line₀ out₀ e₀ turns₀ chunk line out e turns = Unit {0}
+
+abbrev μ-loop : tie.MeasureT-loop
+μ-loop task chunk₀ line₀ out₀ e₀ turns₀ chunk line out e turns = turns
+
+loop-holds : tie.Need-loop-holds Inv-loop μ-loop
+loop-holds c = tt
+
+read-some-requires : tie.Need-read-some-requires Inv-loop μ-loop
+read-some-requires c κs = search needs
+
+returns : tie.Need-returns Inv-loop μ-loop
+returns c = search needs
+
+sub-turns : tie.Need-sub-turns Inv-loop μ-loop
+sub-turns c = search needs
+
+loop-less : tie.Need-loop-less Inv-loop μ-loop
+loop-less c = search needs
+
+loop-again : tie.Need-loop-again Inv-loop μ-loop
+loop-again c = tt
+
+returns-2 : tie.Need-returns-2 Inv-loop μ-loop
+returns-2 c = search needs
+
+pub run-spec : {M : Type 1} → statement M
+run-spec =
+    tie.close
+    (tie.spec
+    Inv-loop
+    μ-loop
+    loop-holds
+    read-some-requires
+    returns
+    sub-turns
+    loop-less
+    loop-again
+    returns-2)

@@ -1,0 +1,10 @@
+pub mod air;
+mod code;
+mod form;
+pub mod ground;
+mod line;
+pub mod lines;
+mod lists;
+pub mod plain;
+mod tell;
+pub mod words;

@@ -1,0 +1,106 @@
+// The answer to one line: its word, the octets of its PDU, and what the task says of them. A line that is not as 01 writes lines is 17.
+use crate::code;
+use crate::lines::Task;
+use crate::plain::Page;
+use crate::tell;
+use pdu::AirAnswer;
+use pdu::AirReading;
+use pdu::GroundAnswer;
+use text::Hex;
+ghost use Rattle.io.specs.Counts.{Counts};
+
+// How many octets of a buffer stand before a place.
+pub(crate) fn shown(at: usize, out: &[u8]) -> usize
+    ensures { λ r. ⌜ Counts r (now (out .entry)) ⌝ }
+{
+    if at < out.len() { at } else { out.len() }
+}
+
+pub(crate) fn put_refused(out: &mut Page, at: usize, n: u8) -> usize {
+    let a = text::put_text(out, at, b"refused ");
+    text::put_decimal(out, a, n as u64)
+}
+
+fn say_refused(task: Task, out: &mut Page, at: usize, n: u8) -> usize {
+    let a = put_refused(out, at, n);
+    match task {
+        Task::Code => a,
+        Task::Tell => crate::words::put_refusal(out, a, n),
+    }
+}
+
+fn read_air(octets: &[u8]) -> AirReading {
+    pdu::decode_air(octets)
+}
+
+fn say_air(task: Task, out: &mut Page, at: usize, octets: &[u8]) -> usize {
+    let r = read_air(octets);
+    let answer = r.answer;
+    let list = r.list;
+    match answer {
+        AirAnswer::Good(kind) => match task {
+            Task::Code => code::put_air(out, at, kind, list),
+            Task::Tell => tell::put_air(out, at, kind, list),
+        },
+        AirAnswer::Refused(n) => say_refused(task, out, at, n),
+    }
+}
+
+fn read_ground(octets: &[u8]) -> GroundAnswer {
+    pdu::decode_ground(octets)
+}
+
+fn say_ground(task: Task, out: &mut Page, at: usize, octets: &[u8]) -> usize {
+    let answer = read_ground(octets);
+    match answer {
+        GroundAnswer::Good(g) => match task {
+            Task::Code => code::put_ground(out, at, g),
+            Task::Tell => tell::put_ground(out, at, g),
+        },
+        GroundAnswer::Refused(n) => say_refused(task, out, at, n),
+    }
+}
+
+fn say_pdu(task: Task, out: &mut Page, at: usize, word: &[u8], octets: &[u8]) -> usize {
+    if text::same(word, b"air") {
+        return say_air(task, out, at, octets);
+    }
+    if text::same(word, b"ground") {
+        return say_ground(task, out, at, octets);
+    }
+    say_refused(task, out, at, 17)
+}
+
+// How many octets of a PDU follow the word: none, or those after a space; 2,049 where they cannot be read.
+fn octets_after(tail: &[u8], octets: &mut [u8]) -> usize {
+    if tail.len() == 0 {
+        return 0;
+    }
+    if tail.len() == 1 {
+        return 2049;
+    }
+    let hex = text::parse_hex(&tail[1..], octets);
+    match hex {
+        Hex::Octets(n) => n,
+        Hex::Long => 2049,
+        Hex::Garbled => 2049,
+    }
+}
+
+fn say_tail(task: Task, out: &mut Page, at: usize, word: &[u8], tail: &[u8]) -> usize {
+    let mut octets = [0u8; 2048];
+    let n = octets_after(tail, &mut octets);
+    if 2048 < n {
+        return say_refused(task, out, at, 17);
+    }
+    let m = shown(n, &octets);
+    say_pdu(task, out, at, word, &octets[..m])
+}
+
+pub(crate) fn say_line(task: Task, out: &mut Page, at: usize, line: &[u8]) -> usize {
+    if 4096 < line.len() {
+        return say_refused(task, out, at, 17);
+    }
+    let e = text::word_end(line);
+    say_tail(task, out, at, &line[..e], &line[e..])
+}

@@ -1,2 +1,0 @@
-// The bench script: the answer to a line, as text, and the box after it. No input or output here.
-pub mod reply;
