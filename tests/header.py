@@ -19,7 +19,7 @@ LENT = re.compile(r"&(mut )?(\w+)")
 # A number of the header and the constant that it is.
 CONSTANTS = {
     "host_record/src/record.rt": {"ADSC_LINK_OCTETS": "RECORD"},
-    "host_record/src/answer.rt": {"ADSC_ANSWER_OCTETS": "SAID"},
+    "host_record/src/answer.rt": {"ADSC_ANSWER_OCTETS": "ANSWER"},
     "ground_answer/src/answer.rt": {
         "ADSC_START_REQUEST": "START_REQUEST", "ADSC_DATA_REQUEST": "DATA_REQUEST", "ADSC_END_REQUEST": "END_REQUEST", "ADSC_ABORT_REQUEST": "ABORT_REQUEST",
         "ADSC_ABORT_INDICATION": "ABORT_IND", "ADSC_PEER_ABORT": "PEER_ABORT_IND", "ADSC_LATE": "LATE"},
@@ -57,7 +57,7 @@ ARRAYS = [
         "ADSC_A_MINUTES": "t.minutes", "ADSC_A_SECONDS": "t.seconds", "ADSC_A_ACCURACY": "m.accuracy", "ADSC_A_UNITS": "bit(m.units)",
         "ADSC_A_AVOIDANCE": "bit(m.avoidance)", "ADSC_A_ADDRESS": "address"}),
     ("host_numbers/src/downlink.rt", "few_of", "ADSC_AIR_NUMBERS", {"ADSC_A_KIND": "kind", "ADSC_A_WHAT": "a", "ADSC_A_DETAIL": "b", "ADSC_A_COUNT": "count"}),
-    ("host_record/src/answer.rt", "said_octets", "ADSC_ANSWER_OCTETS", {
+    ("host_record/src/answer.rt", "answer_octets", "ADSC_ANSWER_OCTETS", {
         "ADSC_ANSWER_REASON": "(w / 16777216) as u8", "ADSC_ANSWER_ACTIONS": "n", "ADSC_ANSWER_SENT": "m"}),
 ]
 

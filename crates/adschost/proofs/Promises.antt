@@ -15,10 +15,10 @@ use Rattle.pdu.specs.declared.downlink.AirPdu.{AirPdu}
 use Rattle.pdu.specs.DownlinkTable.{airC}
 use Rattle.pdu.proofs.DownlinkNorms.{air-norm}
 use Rattle.pdu.proofs.Promises.{air-read, ground-read}
-use Rattle.host_numbers.specs.Grounds.{flatGround, groundAt}
-use Rattle.host_numbers.specs.Airs.{flatAir, airAt}
-use Rattle.host_numbers.specs.laws.FlatupBack.{ground-back}
-use Rattle.host_numbers.specs.laws.FlatdownBack.{levelIn, listFor, pdu-back}
+use Rattle.host_numbers.specs.UplinkNumbers.{flatGround, groundAt}
+use Rattle.host_numbers.specs.DownlinkNumbers.{flatAir, airAt}
+use Rattle.host_numbers.specs.laws.UplinkBack.{ground-back}
+use Rattle.host_numbers.specs.laws.DownlinkBack.{levelIn, listFor, pdu-back}
 use Rattle.adschost.specs.Flatness.{AirShown, ShowsAir, GroundShown, ShowsGround, WritesFlat}
 
 -- "one possible result and one possible content of each lent buffer"

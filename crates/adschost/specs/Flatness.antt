@@ -15,8 +15,8 @@ use Rattle.pdu.specs.declared.AirAnswer.the-variants as air
 use Rattle.pdu.specs.declared.AirReading.{AirReading}
 use Rattle.pdu.specs.declared.GroundAnswer.{GroundAnswer}
 use Rattle.pdu.specs.declared.GroundAnswer.the-variants as ground
-use Rattle.host_numbers.specs.Grounds.{flatGround}
-use Rattle.host_numbers.specs.Airs.{flatAir}
+use Rattle.host_numbers.specs.UplinkNumbers.{flatGround}
+use Rattle.host_numbers.specs.DownlinkNumbers.{flatAir}
 
 -- what reading an aircraft PDU gives a host: the number, its numbers and its list. 6 where they have no room
 pub record AirShown : Type 0 where

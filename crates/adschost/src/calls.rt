@@ -4,7 +4,7 @@ use host_numbers::uplink::ground_at;
 use host_record::step::make;
 use host_record::step::step;
 ghost use mathlib.Core.List.{[]};
-ghost use Rattle.host_numbers.specs.Grounds.{groundAt};
+ghost use Rattle.host_numbers.specs.UplinkNumbers.{groundAt};
 ghost use Rattle.ground.specs.declared.call.Call.the-variants.{Request, UserAbort, Elapse, StartConfirm, StartRejected, Data, EndConfirm, PeerAbort, AirAbort, Down};
 ghost use Rattle.host_record.specs.Hosting.{hosted, Hosts, made, Makes};
 

@@ -18,8 +18,8 @@ ghost use Rattle.per.specs.Writing.{writePdu};
 ghost use Rattle.pdu.specs.UplinkTable.{groundC};
 ghost use Rattle.pdu.specs.DownlinkTable.{airC};
 ghost use Rattle.pdu.specs.Answers.{airReading, groundReading};
-ghost use Rattle.host_numbers.specs.Grounds.{groundAt};
-ghost use Rattle.host_numbers.specs.Airs.{airAt};
+ghost use Rattle.host_numbers.specs.UplinkNumbers.{groundAt};
+ghost use Rattle.host_numbers.specs.DownlinkNumbers.{airAt};
 ghost use Rattle.adschost.specs.Flatness.{airShown, ShowsAir, groundShown, ShowsGround, numberOf, lengthOf, WritesFlat};
 
 // An aircraft PDU as 25 numbers and the 128 octets of its list.

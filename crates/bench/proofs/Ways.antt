@@ -9,9 +9,9 @@ use lib.ListN.{length, take, drop}
 use Rattle.text.specs.Text.{pick, wordEnd}
 use Rattle.text.proofs.Laws.{part-all}
 use Rattle.bench_line.specs.Words.{wordOf}
-use Rattle.bench_line.specs.Lines.{unread, askedBy, askedOf}
-use Rattle.bench.specs.declared.reply.Bench.{Bench}
-use Rattle.bench.specs.Replies.{readyBench, refusedReply, playReply, setReply, wordReply, lineReply}
+use Rattle.bench_line.specs.Lines.{unread, parsedBy, parsedLine}
+use Rattle.bench.specs.declared.reply.Setup.{Setup}
+use Rattle.bench.specs.Replies.{readySetup, refusedReply, playReply, setReply, wordReply, lineReply}
 
 pick-yes : {X : Type 0} (f : Bool) (x y : X) → f ≡ true → pick f x y ≡ x
 pick-yes f x y e = ap (λ (g : Bool). pick g x y) e
@@ -20,20 +20,20 @@ pick-else : {X : Type 0} (f : Bool) (x y : X) → f ≡ false → pick f x y ≡
 pick-else f x y e = ap (λ (g : Bool). pick g x y) e
 
 -- a box that has its settings: a line that is too long asks nothing
-pub line-play : (b : Bench) (line : List ℕ) → b .ready ≡ true → lineReply b line ≡ playReply (b .link) (askedOf line)
-unfolding lineReply wordReply playReply askedOf
+pub line-play : (b : Setup) (line : List ℕ) → b .ready ≡ true → lineReply b line ≡ playReply (b .link) (parsedLine line)
+unfolding lineReply wordReply playReply parsedLine
 line-play b line r = go (ltb 4096 (length line))
   where
-    same-box : b ≡ readyBench (b .link)
+    same-box : b ≡ readySetup (b .link)
     same-box = ap (λ (f : Bool). record { ready = f; link = b .link }) r
 
     go : (f : Bool) → pick f (refusedReply b 17) (wordReply b (wordOf (take (wordEnd line) line)) (drop (wordEnd line) line))
-        ≡ playReply (b .link) (pick f unread (askedBy (wordOf (take (wordEnd line) line)) (drop (wordEnd line) line)))
-    go true = ap (λ (z : Bench). refusedReply z 17) same-box
+        ≡ playReply (b .link) (pick f unread (parsedBy (wordOf (take (wordEnd line) line)) (drop (wordEnd line) line)))
+    go true = ap (λ (z : Setup). refusedReply z 17) same-box
     go false = pick-yes (b .ready) _ _ r
 
 -- a box that has none: each way out of a line that is not too long, with its word from its start to e
-module _ (b : Bench) (line : List ℕ) (e w : ℕ) (new : b .ready ≡ false) (fits : length line ≤ 4096) (ends : e ≡ wordEnd line) (is : w ≡ wordOf (take e line)) where
+module _ (b : Setup) (line : List ℕ) (e w : ℕ) (new : b .ready ≡ false) (fits : length line ≤ 4096) (ends : e ≡ wordEnd line) (is : w ≡ wordOf (take e line)) where
   new-line : lineReply b line ≡ pick (eqb w 1) (setReply b (drop e line)) (refusedReply b 17)
   unfolding lineReply wordReply
   new-line = rw (le-ltb _ _ fits, ← ends, ← is) (pick-else (b .ready) _ _ new)

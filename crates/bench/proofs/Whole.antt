@@ -12,8 +12,8 @@ use lib.ListN.{length, take, length-append, length-take}
 use lib.Seq.{take-all, take-at}
 use Rattle.text.specs.Text.{pick}
 use Rattle.bench.specs.Replies.{lineReply}
-use Rattle.bench.specs.declared.reply.Bench.{Bench}
-use Rattle.bench.specs.Trace.{bumped, Mind, numbered, said, closed, next, saidAll, nextAll, lastText, start, firstText, traceOf}
+use Rattle.bench.specs.declared.reply.Setup.{Setup}
+use Rattle.bench.specs.Trace.{bumped, State, numbered, added, closed, next, addedAll, nextAll, lastText, start, firstText, traceOf}
 use Rattle.bench.proofs.Steps.{mk, next-append, said-append}
 
 -- the pieces that the reads bring, in order: what each adds to the trace
@@ -21,15 +21,15 @@ abbrev pub joined : List (List ℕ) → List ℕ
 joined [] = []
 joined (p ∷ ps) = p ++ joined ps
 
-abbrev pub byPieces : ℕ → Mind → List (List ℕ) → List ℕ
+abbrev pub byPieces : ℕ → State → List (List ℕ) → List ℕ
 byPieces most m [] = lastText m
-byPieces most m (p ∷ ps) = saidAll most m p ++ byPieces most (nextAll most m p) ps
+byPieces most m (p ∷ ps) = addedAll most m p ++ byPieces most (nextAll most m p) ps
 
-pieces : (most : ℕ) (m : Mind) (ps : List (List ℕ)) → byPieces most m ps ≡ saidAll most m (joined ps) ++ lastText (nextAll most m (joined ps))
+pieces : (most : ℕ) (m : State) (ps : List (List ℕ)) → byPieces most m ps ≡ addedAll most m (joined ps) ++ lastText (nextAll most m (joined ps))
 pieces most m [] = refl
 pieces most m (p ∷ ps) =
-    ap (λ (l : List ℕ). saidAll most m p ++ l) (pieces most (nextAll most m p) ps)
-    ∙ sym (append-assoc (saidAll most m p) (saidAll most (nextAll most m p) (joined ps)) (lastText (nextAll most (nextAll most m p) (joined ps))))
+    ap (λ (l : List ℕ). addedAll most m p ++ l) (pieces most (nextAll most m p) ps)
+    ∙ sym (append-assoc (addedAll most m p) (addedAll most (nextAll most m p) (joined ps)) (lastText (nextAll most (nextAll most m p) (joined ps))))
     ∙ rw (said-append most m p (joined ps), next-append most m p (joined ps))
 
 -- however the script comes, the texts of its pieces are the trace of the whole
@@ -49,15 +49,15 @@ plain-head b bs = go (eqb b 10)
     go true e = let z : _≡_ {A = ℕ} 0 1 = cc in absurd (omega arith)
     go false e = (refl, e)
 
-says-nothing : (most : ℕ) (m : Mind) (l : List ℕ) → plain l ≡ true → saidAll most m l ≡ []
-unfolding said
+says-nothing : (most : ℕ) (m : State) (l : List ℕ) → plain l ≡ true → addedAll most m l ≡ []
+unfolding added
 says-nothing most m [] e = refl
 says-nothing most m (b ∷ bs) e =
     let h = plain-head b bs e in
     rw (h .0) (says-nothing most (next most m b) bs (h .1))
 
 -- a line is kept, as far as there is room
-keeps : (most : ℕ) (k l : List ℕ) (n : ℕ) (b : Bench) → plain l ≡ true → length k ≤ most → nextAll most (mk k n b) l ≡ mk (take most (k ++ l)) n b
+keeps : (most : ℕ) (k l : List ℕ) (n : ℕ) (b : Setup) → plain l ≡ true → length k ≤ most → nextAll most (mk k n b) l ≡ mk (take most (k ++ l)) n b
 unfolding next
 keeps most k [] n b e h = rw append-nil (ap (λ (z : List ℕ). mk z n b) (sym (take-all most k h)))
 keeps most k (o ∷ os) n b e h =
@@ -71,9 +71,9 @@ keeps most k (o ∷ os) n b e h =
     rw (p .0, lt-ltb _ _ room) (keeps most (k ++ (o ∷ [])) os n b (p .1) more ∙ ap (λ (z : List ℕ). mk (take most z) n b) (append-assoc k (o ∷ []) os)))
     (eq-or-lt-of-le h)
 
-says-line : (most : ℕ) (l rest : List ℕ) (n : ℕ) (b : Bench) → plain l ≡ true
-    → saidAll most (mk [] n b) (l ++ 10 ∷ rest) ≡ numbered (bumped n) b (take most l) .text ++ saidAll most (mk [] (bumped n) (numbered (bumped n) b (take most l) .bench)) rest
-unfolding said next closed
+says-line : (most : ℕ) (l rest : List ℕ) (n : ℕ) (b : Setup) → plain l ≡ true
+    → addedAll most (mk [] n b) (l ++ 10 ∷ rest) ≡ numbered (bumped n) b (take most l) .text ++ addedAll most (mk [] (bumped n) (numbered (bumped n) b (take most l) .setup)) rest
+unfolding added next closed
 says-line most l rest n b e =
     said-append most (mk [] n b) l (10 ∷ rest)
     ∙ rw (says-nothing most (mk [] n b) l e, keeps most [] l n b e (omega arith))
@@ -86,7 +86,7 @@ le-or-lt a b = go (leb a b) refl
     go false e = inr (leb-false a b e)
 
 -- 4,097 octets of a line are enough to answer it
-reply-cut : (b : Bench) (l : List ℕ) → lineReply b (take 4097 l) ≡ lineReply b l
+reply-cut : (b : Setup) (l : List ℕ) → lineReply b (take 4097 l) ≡ lineReply b l
 unfolding lineReply
 reply-cut b l =
     ⊎-elim
@@ -98,7 +98,7 @@ reply-cut b l =
     (le-or-lt (length l) 4097)
 
 -- so the trace goes by whole lines, however long: a line's number and answer, then the rest with the box after it
-pub says-whole-line : (l rest : List ℕ) (n : ℕ) (b : Bench) → plain l ≡ true
-    → saidAll 4097 (mk [] n b) (l ++ 10 ∷ rest) ≡ numbered (bumped n) b l .text ++ saidAll 4097 (mk [] (bumped n) (numbered (bumped n) b l .bench)) rest
+pub says-whole-line : (l rest : List ℕ) (n : ℕ) (b : Setup) → plain l ≡ true
+    → addedAll 4097 (mk [] n b) (l ++ 10 ∷ rest) ≡ numbered (bumped n) b l .text ++ addedAll 4097 (mk [] (bumped n) (numbered (bumped n) b l .setup)) rest
 unfolding numbered
 says-whole-line l rest n b e = says-line 4097 l rest n b e ∙ rw (reply-cut b l)

@@ -16,45 +16,45 @@ use Rattle.ground.specs.Runs.{answered}
 use Rattle.ground_answer.specs.declared.answer.Answer.{Answer}
 use Rattle.ground_answer.specs.declared.fresh.Opened.{Opened}
 use Rattle.bench_line.specs.Words.{wordOf}
-use Rattle.bench_line.specs.Lines.{Asked, unread, asks, askedBy}
-use Rattle.bench_line.specs.Says.{refusedText, saidText}
-use Rattle.bench.specs.declared.reply.Bench.{Bench}
+use Rattle.bench_line.specs.Lines.{Parsed, unread, makes, parsedBy}
+use Rattle.bench_line.specs.AnswerText.{refusedText, answerText}
+use Rattle.bench.specs.declared.reply.Setup.{Setup}
 
 pub record Reply : Type 0 where
-  pub bench : Bench
+  pub setup : Setup
   pub text : List ℕ
 
-abbrev pub refusedReply : Bench → ℕ → Reply
-refusedReply b n = record { bench = b; text = refusedText n }
+abbrev pub refusedReply : Setup → ℕ → Reply
+refusedReply b n = record { setup = b; text = refusedText n }
 
-abbrev pub readyBench : Link → Bench
-readyBench l = record { ready = true; link = l }
+abbrev pub readySetup : Link → Setup
+readySetup l = record { ready = true; link = l }
 
 -- a call's answer, with the octets that came beside it
 unfoldable pub answerReply : Answer → List ℕ → Reply
-answerReply a s = record { bench = readyBench (a .link); text = saidText (a .said) s }
+answerReply a s = record { setup = readySetup (a .link); text = answerText (a .said) s }
 
 -- a line for a box that has its settings
-unfoldable pub playReply : Link → Asked → Reply
-playReply l (asks c s) = answerReply (answered l c s) s
-playReply l unread = refusedReply (readyBench l) 17
+unfoldable pub playReply : Link → Parsed → Reply
+playReply l (makes c s) = answerReply (answered l c s) s
+playReply l unread = refusedReply (readySetup l) 17
 
 -- `set` and nine settings; 3 leaves the box without a link
-unfoldable pub openReply : Bench → Opened → Reply
-openReply b o = pick (eqb (o .refusal) 0) (record { bench = readyBench (o .link); text = ascii "ok" }) (refusedReply b (o .refusal))
+unfoldable pub openReply : Setup → Opened → Reply
+openReply b o = pick (eqb (o .refusal) 0) (record { setup = readySetup (o .link); text = ascii "ok" }) (refusedReply b (o .refusal))
 
-unfoldable pub setReply : Bench → List ℕ → Reply
+unfoldable pub setReply : Setup → List ℕ → Reply
 setReply b tail = pick (nineOf tail .good) (openReply b (opened (nineOf tail .list))) (refusedReply b 17)
 
 -- "Lines before a good `set`, a `set` after it and lines over 4,096 octets are 17."
-unfoldable pub wordReply : Bench → ℕ → List ℕ → Reply
-wordReply b w tail = pick (b .ready) (playReply (b .link) (askedBy w tail)) (pick (eqb w 1) (setReply b tail) (refusedReply b 17))
+unfoldable pub wordReply : Setup → ℕ → List ℕ → Reply
+wordReply b w tail = pick (b .ready) (playReply (b .link) (parsedBy w tail)) (pick (eqb w 1) (setReply b tail) (refusedReply b 17))
 
-unfoldable pub lineReply : Bench → List ℕ → Reply
+unfoldable pub lineReply : Setup → List ℕ → Reply
 lineReply b line = pick (ltb 4096 (length line)) (refusedReply b 17) (wordReply b (wordOf (take (wordEnd line) line)) (drop (wordEnd line) line))
 
 -- what the code gives: the box, and the text on the page, which is never long
-pub record Replies (x : Reply) (p : Page) (b : Bench) (q : Page) : Type 0 where
-  pub bench-is : b ≡ x .bench
+pub record Replies (x : Reply) (p : Page) (b : Setup) (q : Page) : Type 0 where
+  pub bench-is : b ≡ x .setup
   pub text-is : Writes p (x .text) q
   pub short : length (x .text) ≤ 34000

@@ -1,4 +1,4 @@
-// The bench script: the answer to a line, as text, and the box after it. No input or output here.
+// The script bench: the answer to each line, the trace of a script that comes in pieces, its input and output.
 pub mod player;
 pub mod reply;
 pub mod trace;

@@ -1,21 +1,21 @@
 // A bench script from standard input, its trace to standard output: what the programs share.
-use crate::trace::Desk;
+use crate::trace::Trace;
 use libc::STDIN_FILENO;
 use libc::STDOUT_FILENO;
 ghost use mathlib.Core.Path.{_≡_};
 ghost use Prim.Native.Nat.{_≤_};
 ghost use lib.ListN.{length, take};
 ghost use Rattle.io.specs.Counts.{Counts};
-ghost use Rattle.bench.specs.Trace.{mind, saidAll, nextAll};
+ghost use Rattle.bench.specs.Trace.{stateOf, addedAll, nextAll};
 
-// The desk, and whether input can come and output can go.
+// The trace so far, and whether input can come and output can go.
 struct Turn {
-    desk: Desk,
+    trace: Trace,
     more: bool,
 }
 
 struct Fed {
-    desk: Desk,
+    trace: Trace,
     used: usize,
     open: bool,
 }
@@ -35,52 +35,52 @@ fn shown(at: usize, out: &[u8]) -> usize
 }
 
 // Answers the front of a piece of the script and writes the text: at exit it is the page up to the pen.
-fn feed(d: Desk, script: &[u8], line: &mut [u8], out: &mut [u8], lent: bool) -> Fed
+fn feed(d: Trace, script: &[u8], line: &mut [u8], out: &mut [u8], lent: bool) -> Fed
     requires { ⌜ 100000 ≤ length (now out) ⌝ }
-    ensures { λ r. ⌜ (r .used ≤ length (now (script .entry))) × (r .used ≡ 0 → length (now (script .entry)) ≡ 0) × (mind (r .desk) (now (line .exit)) ≡ nextAll (length (now (line .entry))) (mind d (now (line .entry))) (take (r .used) (now (script .entry)))) × (take (r .desk .at) (now (out .exit)) ≡ saidAll (length (now (line .entry))) (mind d (now (line .entry))) (take (r .used) (now (script .entry)))) ⌝ }
+    ensures { λ r. ⌜ (r .used ≤ length (now (script .entry))) × (r .used ≡ 0 → length (now (script .entry)) ≡ 0) × (stateOf (r .trace) (now (line .exit)) ≡ nextAll (length (now (line .entry))) (stateOf d (now (line .entry))) (take (r .used) (now (script .entry)))) × (take (r .trace .at) (now (out .exit)) ≡ addedAll (length (now (line .entry))) (stateOf d (now (line .entry))) (take (r .used) (now (script .entry)))) ⌝ }
 {
     let f = crate::trace::fill(d, script, line, out, lent);
-    let e = f.desk;
+    let e = f.trace;
     let n = shown(e.at, out);
     let open = io::write_all(STDOUT_FILENO, &out[..n]);
     Fed {
-        desk: e,
+        trace: e,
         used: f.used,
         open,
     }
 }
 
 // A whole piece of the script.
-fn feed_all(d: Desk, script: &[u8], line: &mut [u8], out: &mut [u8], lent: bool) -> Turn
+fn feed_all(d: Trace, script: &[u8], line: &mut [u8], out: &mut [u8], lent: bool) -> Turn
     requires { ⌜ 100000 ≤ length (now out) ⌝ }
 {
     let mut e = d;
     let mut i = 0;
     while i < script.len() {
         let f = feed(e, &script[i..], line, out, lent);
-        e = f.desk;
+        e = f.trace;
         i += f.used;
         if !f.open {
             return Turn {
-                desk: e,
+                trace: e,
                 more: false,
             };
         }
     }
     Turn {
-        desk: e,
+        trace: e,
         more: true,
     }
 }
 
 // One read, and what it brought.
-fn read_some(d: Desk, chunk: &mut [u8], line: &mut [u8], out: &mut [u8], lent: bool) -> Turn
+fn read_some(d: Trace, chunk: &mut [u8], line: &mut [u8], out: &mut [u8], lent: bool) -> Turn
     requires { ⌜ 100000 ≤ length (now out) ⌝ }
 {
     let got = libc::read(STDIN_FILENO, chunk);
     if got <= 0 {
         return Turn {
-            desk: d,
+            trace: d,
             more: false,
         };
     }
@@ -89,14 +89,14 @@ fn read_some(d: Desk, chunk: &mut [u8], line: &mut [u8], out: &mut [u8], lent: b
 }
 
 // Reads to the end of the input. A proved loop has to end, so it counts down from a number that no run uses up.
-fn run(d: Desk, chunk: &mut [u8], line: &mut [u8], out: &mut [u8], lent: bool) -> Desk
+fn run(d: Trace, chunk: &mut [u8], line: &mut [u8], out: &mut [u8], lent: bool) -> Trace
     requires { ⌜ 100000 ≤ length (now out) ⌝ }
 {
     let mut e = d;
     let mut turns: u64 = 1099511627776;
     while turns > 0 {
         let t = read_some(e, chunk, line, out, lent);
-        e = t.desk;
+        e = t.trace;
         if !t.more {
             return e;
         }

@@ -1,8 +1,8 @@
 // The answer to one line of a script.
+use bench_line::answer::put_answer;
 use bench_line::answer::put_refused;
-use bench_line::answer::put_said;
-use bench_line::line::Told;
-use bench_line::line::asked;
+use bench_line::line::LineCall;
+use bench_line::line::parse_line;
 use bench_line::words::SET;
 use bench_line::words::word_of;
 use ground_answer::fresh::open;
@@ -16,26 +16,26 @@ ghost use mathlib.Core.Path.{_≡_};
 ghost use Prim.Native.Nat.{_≤_};
 ghost use lib.ListN.{length};
 ghost use Rattle.text.specs.Page.{page};
-ghost use Rattle.bench_line.specs.Lines.{askedOf};
+ghost use Rattle.bench_line.specs.Lines.{parsedLine};
 ghost use Rattle.bench.specs.Replies.{refusedReply, playReply, setReply, lineReply, Replies};
 
 // The box at the bench: `ready` once it has its settings, and its link from then on.
-pub struct Bench {
+pub struct Setup {
     pub ready: bool,
     pub link: Link,
 }
 
 // The box after a line, and the place of the pen after its text.
 pub struct Replied {
-    pub bench: Bench,
+    pub setup: Setup,
     pub at: usize,
 }
 
-fn refuse_line(b: Bench, n: u8, out: &mut [u8], at: usize) -> Replied
-    ensures { λ r. ⌜ Replies (refusedReply b n) (page (now (out .entry)) at) (r .bench) (page (now (out .exit)) (r .at)) ⌝ }
+fn refuse_line(b: Setup, n: u8, out: &mut [u8], at: usize) -> Replied
+    ensures { λ r. ⌜ Replies (refusedReply b n) (page (now (out .entry)) at) (r .setup) (page (now (out .exit)) (r .at)) ⌝ }
 {
     let a = put_refused(out, at, n);
-    Replied { bench: b, at: a }
+    Replied { setup: b, at: a }
 }
 
 // Room for the octets of the longest line. Only its length is stated: its octets are written before they are read.
@@ -47,20 +47,20 @@ fn blank() -> [u8; 2048]
 
 // A line for a box that has its settings.
 fn play(link: Link, line: &[u8], out: &mut [u8], at: usize, lent: bool) -> Replied
-    ensures { λ r. ⌜ Replies (playReply link (askedOf (now (line .entry)))) (page (now (out .entry)) at) (r .bench) (page (now (out .exit)) (r .at)) ⌝ }
+    ensures { λ r. ⌜ Replies (playReply link (parsedLine (now (line .entry)))) (page (now (out .entry)) at) (r .setup) (page (now (out .exit)) (r .at)) ⌝ }
 {
     let mut octets = blank();
-    let told = asked(line, &mut octets);
-    let Told::Asks(call, n) = told else {
-        return refuse_line(Bench { ready: true, link }, 17, out, at);
+    let told = parse_line(line, &mut octets);
+    let LineCall::Makes(call, n) = told else {
+        return refuse_line(Setup { ready: true, link }, 17, out, at);
     };
     let m = least(n, 2048);
     let a = answer_by(link, call, &octets[..m], lent);
     let next = a.link;
     let said = a.said;
-    let b = put_said(out, at, said, &octets[..m]);
+    let b = put_answer(out, at, said, &octets[..m]);
     Replied {
-        bench: Bench {
+        setup: Setup {
             ready: true,
             link: next,
         },
@@ -69,8 +69,8 @@ fn play(link: Link, line: &[u8], out: &mut [u8], at: usize, lent: bool) -> Repli
 }
 
 // A line with the settings, for a box that has none.
-fn set_line(b: Bench, tail: &[u8], out: &mut [u8], at: usize) -> Replied
-    ensures { λ r. ⌜ Replies (setReply b (now (tail .entry))) (page (now (out .entry)) at) (r .bench) (page (now (out .exit)) (r .at)) ⌝ }
+fn set_line(b: Setup, tail: &[u8], out: &mut [u8], at: usize) -> Replied
+    ensures { λ r. ⌜ Replies (setReply b (now (tail .entry))) (page (now (out .entry)) at) (r .setup) (page (now (out .exit)) (r .at)) ⌝ }
 {
     let nine = parse_nine(tail);
     let good = nine.good;
@@ -86,14 +86,14 @@ fn set_line(b: Bench, tail: &[u8], out: &mut [u8], at: usize) -> Replied
     let link = o.link;
     let a = put_text(out, at, b"ok");
     Replied {
-        bench: Bench { ready: true, link },
+        setup: Setup { ready: true, link },
         at: a,
     }
 }
 
 // One line, without its number and its end. `lent` says how the clock is worked; the answer does not depend on it.
-pub fn answer_line(b: Bench, line: &[u8], out: &mut [u8], at: usize, lent: bool) -> Replied
-    ensures { λ r. ⌜ Replies (lineReply b (now (line .entry))) (page (now (out .entry)) at) (r .bench) (page (now (out .exit)) (r .at)) ⌝ }
+pub fn answer_line(b: Setup, line: &[u8], out: &mut [u8], at: usize, lent: bool) -> Replied
+    ensures { λ r. ⌜ Replies (lineReply b (now (line .entry))) (page (now (out .entry)) at) (r .setup) (page (now (out .exit)) (r .at)) ⌝ }
 {
     let link = b.link;
     if b.ready {

@@ -1,4 +1,4 @@
-pub mod Saying
+pub mod AnswerTexts
 pub mod Short
 pub mod Tables
-pub mod Hearing
+pub mod LineCalls

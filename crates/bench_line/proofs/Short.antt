@@ -11,7 +11,7 @@ use Rattle.text.specs.Letters.{ascii}
 use Rattle.text.specs.Text.{pick, hexText, decimal}
 use Rattle.text.proofs.Laws.{decimal-length}
 use Rattle.ground_answer.specs.declared.answer.Said.{Said}
-use Rattle.bench_line.specs.Says.{spaced, timerText, timerEntry, entryText, restOf, entriesOf, refusedText, saidText}
+use Rattle.bench_line.specs.AnswerText.{spaced, timerText, timerEntry, entryText, restOf, entriesOf, refusedText, answerText}
 
 hex-length : (os : List ℕ) → length (hexText os) ≡ length os + length os
 hex-length [] = refl
@@ -67,8 +67,8 @@ unfolding refusedText
 refused-length n = omega (arith, length-append (ascii "refused ") (decimal n), decimal-length n)
 
 pub said-length : (said : Said) (came : List ℕ) → length (said .acts .list) ≡ 8 → length (said .sent .octets) ≡ 8 → length came ≤ 2048
-    → length (saidText said came) ≤ 33000
-unfolding saidText
+    → length (answerText said came) ≤ 33000
+unfolding answerText
 said-length said came p q h =
     let l = take (said .acts .n) (said .acts .list) in
     let most = entries-length l (said .sent .octets) (said .sent .n) (said .reason) came (omega arith) h in

@@ -12,7 +12,7 @@ use Rattle.text.specs.Letters.{ascii}
 use Rattle.text.specs.Text.{pick, decimal}
 use Rattle.text.specs.Page.{Page, Writes}
 use Rattle.text.proofs.Pages.{after}
-use Rattle.bench_line.specs.Says.{spaced, timerText, timerEntry, entryText}
+use Rattle.bench_line.specs.AnswerText.{spaced, timerText, timerEntry, entryText}
 
 -- what holds of each number below n
 abbrev pub Each : ℕ → (ℕ → Type 0) → Type 0

@@ -1,3 +1,3 @@
-pub mod Says
+pub mod AnswerText
 pub mod Words
 pub mod Lines

@@ -10,7 +10,7 @@ ghost use mathlib.Core.Path.{_≡_};
 ghost use Prim.Native.Nat.{_-_, _≤_};
 ghost use lib.ListN.{length, take, drop};
 ghost use Rattle.text.specs.Page.{page, Writes};
-ghost use Rattle.bench_line.specs.Says.{spaced, timerText, timerEntry, entryText, restOf, entriesOf, refusedText, saidText};
+ghost use Rattle.bench_line.specs.AnswerText.{spaced, timerText, timerEntry, entryText, restOf, entriesOf, refusedText, answerText};
 
 // A space and octets, or nothing.
 fn put_spaced(out: &mut [u8], at: usize, s: &[u8]) -> usize
@@ -113,8 +113,8 @@ pub fn put_refused(out: &mut [u8], at: usize, n: u8) -> usize
 }
 
 // An answer to a call with which the octets `came` came.
-pub fn put_said(out: &mut [u8], at: usize, said: Said, came: &[u8]) -> usize
-    ensures { λ r. ⌜ Writes (page (now (out .entry)) at) (saidText said (now (came .entry))) (page (now (out .exit)) r) × (length (now (came .entry)) ≤ 2048 → length (saidText said (now (came .entry))) ≤ 33000) ⌝ }
+pub fn put_answer(out: &mut [u8], at: usize, said: Said, came: &[u8]) -> usize
+    ensures { λ r. ⌜ Writes (page (now (out .entry)) at) (answerText said (now (came .entry))) (page (now (out .exit)) r) × (length (now (came .entry)) ≤ 2048 → length (answerText said (now (came .entry))) ≤ 33000) ⌝ }
 {
     let refusal = said.refusal;
     if refusal != 0 {

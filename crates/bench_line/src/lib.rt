@@ -1,4 +1,4 @@
-// What a line of a script asks: its word, and the call that it makes with what follows the word.
+// A line of a script: the call that it makes, and the answer to it as text.
 pub mod answer;
 pub mod line;
 pub mod words;

@@ -12,12 +12,12 @@ use text::word_end;
 ghost use mathlib.Core.Path.{_≡_};
 ghost use Prim.Native.Nat.{_≤_};
 ghost use lib.ListN.{length};
-ghost use Rattle.bench_line.specs.Lines.{fieldOf, heldIn, heard, withOctets, requestTold, requestOf, elapseTold, aloneTold, askedBy, askedInto};
+ghost use Rattle.bench_line.specs.Lines.{fieldOf, heldIn, parsedIn, withOctets, requestCall, requestOf, elapseCall, aloneCall, parsedBy, parsedInto};
 
 // A call with the number of octets that stand beside it, or a line that is not readable.
-pub enum Told {
+pub enum LineCall {
     Unread,
-    Asks(Call, usize),
+    Makes(Call, usize),
 }
 
 // Nothing, or a space and hexadecimal text: its octets come to the front of `octets`.
@@ -34,69 +34,69 @@ fn tail_octets(tail: &[u8], octets: &mut [u8]) -> Hex
     parse_hex(&tail[1..], octets)
 }
 
-fn with_octets(call: Call, tail: &[u8], octets: &mut [u8]) -> Told
+fn with_octets(call: Call, tail: &[u8], octets: &mut [u8]) -> LineCall
     requires { ⌜ (length (now tail) ≤ 4096) × (2048 ≤ length (now octets)) ⌝ }
-    ensures { λ r. ⌜ heard r (now (octets .exit)) ≡ withOctets call (fieldOf (now (tail .entry))) ⌝ }
+    ensures { λ r. ⌜ parsedIn r (now (octets .exit)) ≡ withOctets call (fieldOf (now (tail .entry))) ⌝ }
 {
     let h = tail_octets(tail, octets);
     match h {
-        Hex::Octets(n) => Told::Asks(call, n),
-        Hex::Long => Told::Unread,
-        Hex::Garbled => Told::Unread,
+        Hex::Octets(n) => LineCall::Makes(call, n),
+        Hex::Long => LineCall::Unread,
+        Hex::Garbled => LineCall::Unread,
     }
 }
 
-fn request_told(a: GroundAnswer) -> Told
-    ensures { λ r. ⌜ r ≡ requestTold a ⌝ }
+fn request_call(a: GroundAnswer) -> LineCall
+    ensures { λ r. ⌜ r ≡ requestCall a ⌝ }
 {
     match a {
-        GroundAnswer::Good(g) => Told::Asks(Call::Request(g), 0),
-        GroundAnswer::Refused(_) => Told::Unread,
+        GroundAnswer::Good(g) => LineCall::Makes(Call::Request(g), 0),
+        GroundAnswer::Refused(_) => LineCall::Unread,
     }
 }
 
 // A request is a ground PDU that reads.
-fn request_line(tail: &[u8], octets: &mut [u8]) -> Told
+fn request_line(tail: &[u8], octets: &mut [u8]) -> LineCall
     requires { ⌜ (length (now tail) ≤ 4096) × (2048 ≤ length (now octets)) ⌝ }
-    ensures { λ r. ⌜ heard r (now (octets .exit)) ≡ requestOf (fieldOf (now (tail .entry))) ⌝ }
+    ensures { λ r. ⌜ parsedIn r (now (octets .exit)) ≡ requestOf (fieldOf (now (tail .entry))) ⌝ }
 {
     let h = tail_octets(tail, octets);
     match h {
         Hex::Octets(n) => {
             let m = least(n, octets.len());
-            request_told(decode_ground(&octets[..m]))
+            request_call(decode_ground(&octets[..m]))
         }
-        Hex::Long => Told::Unread,
-        Hex::Garbled => Told::Unread,
+        Hex::Long => LineCall::Unread,
+        Hex::Garbled => LineCall::Unread,
     }
 }
 
-fn elapse_line(tail: &[u8]) -> Told
-    ensures { λ r. ⌜ r ≡ elapseTold (now (tail .entry)) ⌝ }
+fn elapse_line(tail: &[u8]) -> LineCall
+    ensures { λ r. ⌜ r ≡ elapseCall (now (tail .entry)) ⌝ }
 {
     if tail.len() == 0 {
-        return Told::Unread;
+        return LineCall::Unread;
     }
     let v = parse_number(&tail[1..]);
     match v {
-        Number::Value(n) => Told::Asks(Call::Elapse(n), 0),
-        Number::Unread => Told::Unread,
+        Number::Value(n) => LineCall::Makes(Call::Elapse(n), 0),
+        Number::Unread => LineCall::Unread,
     }
 }
 
-fn alone(call: Call, tail: &[u8]) -> Told
-    ensures { λ r. ⌜ r ≡ aloneTold call (now (tail .entry)) ⌝ }
+fn alone(call: Call, tail: &[u8]) -> LineCall
+    ensures { λ r. ⌜ r ≡ aloneCall call (now (tail .entry)) ⌝ }
 {
     if tail.len() == 0 {
-        return Told::Asks(call, 0);
+        return LineCall::Makes(call, 0);
     }
-    Told::Unread
+    LineCall::Unread
 }
 
 // The call of the word with the number w and what follows it.
-fn call_of(w: u8, tail: &[u8], octets: &mut [u8]) -> Told
+fn call_of(w: u8, tail: &[u8], octets: &mut [u8]) -> LineCall
     requires { ⌜ (length (now tail) ≤ 4096) × (2048 ≤ length (now octets)) ⌝ }
-    ensures { λ r. ⌜ heard r (now (octets .exit)) ≡ askedBy w (now (tail .entry)) ⌝ }
+    ensures { λ r. ⌜ parsedIn r (now (octets .exit)) ≡ parsedBy w (now (tail .entry)) ⌝ }
 {
     match w {
         REQ => request_line(tail, octets),
@@ -109,19 +109,19 @@ fn call_of(w: u8, tail: &[u8], octets: &mut [u8]) -> Told
         PEER_ABORT => alone(Call::PeerAbort, tail),
         AIR_ABORT => with_octets(Call::AirAbort, tail, octets),
         DOWN => alone(Call::Down, tail),
-        _ => Told::Unread,
+        _ => LineCall::Unread,
     }
 }
 
 // What a line asks of a box that has its settings. The octets of the call come to the front of `octets`, which is to have room for those of any line.
-pub fn asked(line: &[u8], octets: &mut [u8]) -> Told
-    ensures { λ r. ⌜ heard r (now (octets .exit)) ≡ askedInto (length (now (octets .entry))) (now (line .entry)) ⌝ }
+pub fn parse_line(line: &[u8], octets: &mut [u8]) -> LineCall
+    ensures { λ r. ⌜ parsedIn r (now (octets .exit)) ≡ parsedInto (length (now (octets .entry))) (now (line .entry)) ⌝ }
 {
     if octets.len() < 2048 {
-        return Told::Unread;
+        return LineCall::Unread;
     }
     if 4096 < line.len() {
-        return Told::Unread;
+        return LineCall::Unread;
     }
     let e = word_end(line);
     let w = word_of(&line[..e]);

@@ -19,7 +19,7 @@ use Rattle.link.specs.Clock.{notDue, later}
 use Rattle.link.specs.Step.{actsOf, moved}
 use Rattle.link.specs.declared.record.Link.{Link}
 use Rattle.ground_answer.specs.Events.{cancel-all, requestEvent, airEvent}
-use Rattle.ground_answer.specs.Sent.{letter}
+use Rattle.ground_answer.specs.Sent.{outgoing}
 use Rattle.ground_answer.specs.declared.sent.Sent.{Sent}
 use Rattle.ground_answer.specs.Answers.{ABORT-REQUEST, ABORT-IND, PEER-ABORT-IND, START-REQUEST, DATA-REQUEST, END-REQUEST, refusal, tells, quietly, allowed}
 use Rattle.ground_answer.specs.Aborts.{aborted, endsWith, closed, closedWhen}
@@ -87,14 +87,14 @@ module _ (l : Link) (P : ℕ → Answer → Type 0) (k : Kinds l P) where
   unfolding asked
   asking g li entry any ok =
       pick-case (P 0) (eqb (moveOf (l .at) (requestEvent g) .fate) 0)
-      (λ f. pick-case (P 0) (eqb (letter g .refusal) 0) (λ r. k .goes li (requestEvent g) entry (letter g .sent) ok any f) (λ r. k .stays (letter g .refusal) r))
+      (λ f. pick-case (P 0) (eqb (outgoing g .refusal) 0) (λ r. k .goes li (requestEvent g) entry (outgoing g .sent) ok any f) (λ r. k .stays (outgoing g .refusal) r))
       (λ f. k .stays 1 refl)
 
   requesting : (g : Ground) → P 0 (requested l g)
   unfolding requested allCancelled
   requesting g =
       pick-case (P 0) (eqb (requestEvent g) cancel-all)
-      (λ e. closing (eqb (l .li) LI-ACTIVE) 1 (record { entry = END-REQUEST; reason = 0; li = LI-END; sent = letter CancelAll .sent }) refl end-li)
+      (λ e. closing (eqb (l .li) LI-ACTIVE) 1 (record { entry = END-REQUEST; reason = 0; li = LI-END; sent = outgoing CancelAll .sent }) refl end-li)
       (λ e. pick-case (P 0) (good l)
       (λ ok. pick-case (P 0) (eqb (l .li) LI-IDLE) (λ i. asking g LI-START START-REQUEST start-any (eq-T _ ok))
       (λ i. pick-case (P 0) (eqb (l .li) LI-ACTIVE) (λ j. asking g LI-ACTIVE DATA-REQUEST active-any (eq-T _ ok)) (λ j. k .stays 1 refl)))

@@ -68,7 +68,7 @@ stopped-most (suc n) left = go (leb 1 (getD left n 0)) (stopped-most n left)
     go true h = pushed-most (stopped n left) (16 + n) h
     go false h = h
 
--- "An action list has at most 8 entries." That none is cut to be so: `stops-whole`, `closed-list`, `abort-list` (Stops.antt), `short` (Laws.antt)
+-- "An action list has at most 8 entries." That none is cut to be so: `stops-whole`, `closed-list`, `abort-list` (Stops.antt), `short` (link/proofs/Few.antt)
 pub at-most-8 : (l : Link) (c : Made) → reply l c .said .acts .n ≤ 8
 unfolding aborted closed lateData acts
 at-most-8 l c =

@@ -15,7 +15,7 @@ use Rattle.link.specs.Record.{LI-START, LI-ACTIVE, LI-END, idle, withLi}
 use Rattle.link.specs.Step.{actsOf, moved}
 use Rattle.link.specs.declared.record.Link.{Link}
 use Rattle.ground_answer.specs.Events.{airEvent}
-use Rattle.ground_answer.specs.Sent.{sent, letter}
+use Rattle.ground_answer.specs.Sent.{sent, outgoing}
 use Rattle.ground_answer.specs.declared.sent.Sent.{Sent}
 use Rattle.ground_answer.specs.Answers.{DATA-REQUEST, END-REQUEST, LATE, refusal, tells, checked, allowed}
 use Rattle.ground_answer.specs.Aborts.{aborted}
@@ -23,7 +23,7 @@ use Rattle.ground_answer.specs.declared.answer.Answer.{Answer}
 
 -- "cancel-emergency, stop the timer, ind, send ack": the one send that data makes. It goes before an end request
 unfoldable pub ackOf : Move → Sent
-ackOf m = pick (m .send) (letter CancelEmergencyAck .sent) (sent [])
+ackOf m = pick (m .send) (outgoing CancelEmergencyAck .sent) (sent [])
 
 -- "After confirm or data without an abort, if all four modules are IDLE, one end request is added at the end, END."
 unfoldable pub ended : Link → Move → Answer

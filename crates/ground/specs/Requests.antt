@@ -12,7 +12,7 @@ use Rattle.link.specs.Record.{LI-IDLE, LI-START, LI-ACTIVE, LI-END, withLi}
 use Rattle.link.specs.Step.{actsOf, moved}
 use Rattle.link.specs.declared.record.Link.{Link}
 use Rattle.ground_answer.specs.Events.{cancel-all, requestEvent}
-use Rattle.ground_answer.specs.Sent.{sent, letter}
+use Rattle.ground_answer.specs.Sent.{sent, outgoing}
 use Rattle.ground_answer.specs.Answers.{START-REQUEST, DATA-REQUEST, END-REQUEST, ABORT-REQUEST, refusal, tells, checked}
 use Rattle.ground_answer.specs.Aborts.{endsWith, closedWhen}
 use Rattle.ground_answer.specs.declared.answer.Answer.{Answer}
@@ -21,14 +21,14 @@ use Rattle.ground_answer.specs.declared.answer.Answer.{Answer}
 unfoldable pub asked : Link → Ground → ℕ → ℕ → Answer
 asked l g li entry =
     pick (eqb (moveOf (l .at) (requestEvent g) .fate) 0)
-    (pick (eqb (letter g .refusal) 0)
-    (tells (moved (withLi l li) (moveOf (l .at) (requestEvent g))) 0 (acts (actsOf (moveOf (l .at) (requestEvent g)) entry)) (letter g .sent))
-    (refusal l (letter g .refusal)))
+    (pick (eqb (outgoing g .refusal) 0)
+    (tells (moved (withLi l li) (moveOf (l .at) (requestEvent g))) 0 (acts (actsOf (moveOf (l .at) (requestEvent g)) entry)) (outgoing g .sent))
+    (refusal l (outgoing g .refusal)))
     (refusal l 1)
 
 -- "Cancel-all in ACTIVE: stop running timers in watch order, all modules IDLE, end request with the PDU, END."
 unfoldable pub allCancelled : Link → Answer
-allCancelled l = closedWhen l (eqb (l .li) LI-ACTIVE) 1 (record { entry = END-REQUEST; reason = 0; li = LI-END; sent = letter CancelAll .sent })
+allCancelled l = closedWhen l (eqb (l .li) LI-ACTIVE) 1 (record { entry = END-REQUEST; reason = 0; li = LI-END; sent = outgoing CancelAll .sent })
 
 -- "IDLE: a contract request goes as a start request, START. Other sends are data requests. Requests in START or END: refusal 1."
 unfoldable pub requested : Link → Ground → Answer

@@ -1,4 +1,4 @@
-pub mod Letters
+pub mod Outgoings
 pub mod Reasons
 pub mod Own
 pub mod Readings

@@ -7,14 +7,14 @@ use Rattle.link.specs.Record.{quiet, withLi}
 use Rattle.link.specs.Clock.{stopped}
 use Rattle.link.specs.declared.record.Link.{Link}
 use Rattle.pdu.specs.declared.uplink.Ground as ground
-use Rattle.ground_answer.specs.Sent.{sent, letter}
+use Rattle.ground_answer.specs.Sent.{sent, outgoing}
 use Rattle.ground_answer.specs.Answers.{ABORT-REQUEST, ABORT-IND, tells, allowed}
 use Rattle.ground_answer.specs.declared.answer.Answer.{Answer}
 use Rattle.ground_answer.specs.declared.abort.Ending.{Ending}
 
 -- "Stop entries for all running timers, an expired one too, in watch order, abort request with ground provider abort n, abort indication n, all IDLE, LI too"
 unfoldable pub aborted : Link → ℕ → Answer
-aborted l n = tells (quiet l) n (pushed (pushed (stopped 9 (l .left)) ABORT-REQUEST) ABORT-IND) (letter (ground.the-variants.Abort n) .sent)
+aborted l n = tells (quiet l) n (pushed (pushed (stopped 9 (l .left)) ABORT-REQUEST) ABORT-IND) (outgoing (ground.the-variants.Abort n) .sent)
 
 -- the entry after the stops, the reason it shows, LI's state then, and the octets that go
 abbrev pub endsWith : ℕ → ℕ → ℕ → List ℕ → Ending

@@ -6,16 +6,16 @@ use Rattle.per.specs.Pdu.{encode}
 use Rattle.pdu.specs.declared.uplink.Ground.{Ground}
 use Rattle.pdu.specs.UplinkTable.{groundC}
 use Rattle.ground_answer.specs.declared.sent.Sent.{Sent}
-use Rattle.ground_answer.specs.declared.sent.Letter.{Letter}
+use Rattle.ground_answer.specs.declared.sent.Outgoing.{Outgoing}
 
 -- the octets, and zeros
 unfoldable pub sent : List ℕ → Sent
 sent s = record { n = length s; octets = s ++ replicate (8 - length s) 0 }
 
 -- the octets of a ground PDU, or the refusal of its fields and none
-unfoldable pub letterOf : ℕ → List ℕ → Letter
+unfoldable pub letterOf : ℕ → List ℕ → Outgoing
 letterOf zero s = record { refusal = 0; sent = sent s }
 letterOf (suc n) s = record { refusal = suc n; sent = sent [] }
 
-unfoldable pub letter : Ground → Letter
-letter g = letterOf (groundC .chk g) (encode groundC g)
+unfoldable pub outgoing : Ground → Outgoing
+outgoing g = letterOf (groundC .chk g) (encode groundC g)

@@ -1,5 +1,4 @@
-// What a PDU is to the modules, and the octets of a PDU that goes.
-// What a call answers, and the answers that need no table: refusals, aborts, an elapse, a new link.
+// What a call answers: which event a PDU is, the octets of a PDU that goes, refusals, the abort rule, the clock, a new link.
 pub mod abort;
 pub mod answer;
 pub mod clock;

@@ -4,7 +4,7 @@ use pdu::uplink::Ground;
 use per::pen::Written;
 ghost use mathlib.Core.Path.{_≡_};
 ghost use mathlib.Core.List.{[]};
-ghost use Rattle.ground_answer.specs.Sent.{sent, letter};
+ghost use Rattle.ground_answer.specs.Sent.{sent, outgoing};
 
 // The first n octets; the others are 0. No ground PDU is longer than eight.
 pub struct Sent {
@@ -13,7 +13,7 @@ pub struct Sent {
 }
 
 // What writing a PDU gave: the refusal's number, or 0 and the octets.
-pub struct Letter {
+pub struct Outgoing {
     pub refusal: u8,
     pub sent: Sent,
 }
@@ -27,19 +27,19 @@ pub fn nothing() -> Sent
     }
 }
 
-pub fn write(g: Ground) -> Letter
-    ensures { λ r. ⌜ r ≡ letter g ⌝ }
+pub fn write(g: Ground) -> Outgoing
+    ensures { λ r. ⌜ r ≡ outgoing g ⌝ }
 {
     let mut octets = [0u8; 8];
     let w = encode_ground(g, &mut octets);
     match w {
         Written::Octets(n) => {
             let sent = Sent { n, octets };
-            Letter { refusal: 0, sent }
+            Outgoing { refusal: 0, sent }
         }
         Written::Refused(refusal) => {
             let sent = nothing();
-            Letter { refusal, sent }
+            Outgoing { refusal, sent }
         }
     }
 }

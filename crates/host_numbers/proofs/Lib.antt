@@ -1,4 +1,4 @@
 pub mod Twos
 pub mod Puts
-pub mod FlatupOthers
-pub mod FlatdownOthers
+pub mod UplinkOthers
+pub mod DownlinkOthers

@@ -1,5 +1,5 @@
 pub mod Numbers
-pub mod Grounds
+pub mod UplinkNumbers
 pub mod laws
-pub mod Fixes
-pub mod Airs
+pub mod ReportNumbers
+pub mod DownlinkNumbers

@@ -1,3 +1,3 @@
-pub mod FlatupBack
-pub mod FlatfixBack
-pub mod FlatdownBack
+pub mod UplinkBack
+pub mod ReportBack
+pub mod DownlinkBack

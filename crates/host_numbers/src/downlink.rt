@@ -9,15 +9,15 @@ use crate::reports::flat_report;
 use crate::reports::report_at;
 use pdu::downlink::Air;
 use pdu::downlink::AirPdu;
+use pdu_parts::acked::AckedEmergency;
+use pdu_parts::acked::AckedReport;
+use pdu_parts::acked::EventReport;
 use pdu_parts::acks::NegativeAck;
 use pdu_parts::lists::Listed;
 use pdu_parts::lists::no_list;
 use pdu_parts::report::EmergencyReport;
-use pdu_parts::told::AckedEmergency;
-use pdu_parts::told::AckedReport;
-use pdu_parts::told::EventReport;
 ghost use mathlib.Core.Path.{_≡_};
-ghost use Rattle.host_numbers.specs.Airs.{few, flatAcked, flatUrgent, flatEvent, flatAir, ackedAt, urgentAt, eventAt, negativeAt, kindAt, listedAt, listAt, airAt};
+ghost use Rattle.host_numbers.specs.DownlinkNumbers.{few, flatAcked, flatUrgent, flatEvent, flatAir, ackedAt, urgentAt, eventAt, negativeAt, kindAt, listedAt, listAt, airAt};
 
 // A kind without a report.
 fn few_of(kind: u32, a: u32, b: u32, count: u32) -> [u32; 25]

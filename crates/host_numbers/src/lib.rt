@@ -1,4 +1,4 @@
-// Flat lists of numbers, in which a host that has no enums has PDUs: what stands at one place, and copies of whole lists. Missing numbers count as 0.
+// PDUs as flat lists of numbers, for a host that has no enums, and back. Missing numbers count as 0.
 pub mod copy;
 pub mod downlink;
 pub mod numbers;

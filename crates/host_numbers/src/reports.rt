@@ -12,7 +12,7 @@ use pdu_parts::report::Report;
 use pdu_parts::time::Merit;
 use pdu_parts::time::Time;
 ghost use mathlib.Core.Path.{_≡_};
-ghost use Rattle.host_numbers.specs.Fixes.{flatFix, accuracyAt, fixAt, reportAt};
+ghost use Rattle.host_numbers.specs.ReportNumbers.{flatFix, accuracyAt, fixAt, reportAt};
 
 pub fn flat_fix(kind: u32, ack: bool, event: u32, elements: u32, x: Fix, address: u32) -> [u32; 25]
     ensures { λ r. ⌜ r ≡ flatFix kind ack event elements x address ⌝ }

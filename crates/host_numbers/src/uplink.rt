@@ -1,10 +1,10 @@
 // Ground PDUs as nine numbers. Missing numbers count as 0; numbers that name nothing make a value that no writer takes.
 use crate::numbers::number;
 use pdu::uplink::Ground;
-use pdu_parts::contract::Periodic;
 use pdu_parts::interval::Interval;
+use pdu_parts::periodic::Periodic;
 ghost use mathlib.Core.Path.{_≡_};
-ghost use Rattle.host_numbers.specs.Grounds.{flatGround, flatModify, flatPeriodic, pairOf, scaleOf, timesOf, intervalOf, periodicAt, groundAt};
+ghost use Rattle.host_numbers.specs.UplinkNumbers.{flatGround, flatModify, flatPeriodic, pairOf, scaleOf, timesOf, intervalOf, periodicAt, groundAt};
 
 fn scale_of(i: Interval) -> u32
     ensures { λ r. ⌜ r ≡ scaleOf i ⌝ }

@@ -16,8 +16,8 @@ use Rattle.ground.specs.declared.call.Call.{Call}
 use Rattle.ground.specs.Runs.{answered, Made, reply, after}
 use Rattle.ground.proofs.Promises.{refused-still}
 use Rattle.ground.proofs.Demand3.{after-sound}
-use Rattle.host_record.specs.StoredLayout.{linkOf, recordOctets}
-use Rattle.host_record.specs.SaidLayout.{saidOctets}
+use Rattle.host_record.specs.RecordLayout.{linkOf, recordOctets}
+use Rattle.host_record.specs.AnswerLayout.{answerOctets}
 use Rattle.host_record.specs.laws.Back.{record-back}
 use Rattle.host_record.proofs.Puts.{length-record}
 use Rattle.host_record.specs.Hosting.{Done, left, told, hosted, kept, Hosts, Opening, Makes}
@@ -35,7 +35,7 @@ unfolding told
 told-still s o a = go (eqb (a .said .refusal) 0) refl
   where
     full : Done
-    full = record { number = 0; link = recordOctets (a .link); answer = sets o 0 (saidOctets (a .said)) }
+    full = record { number = 0; link = recordOctets (a .link); answer = sets o 0 (answerOctets (a .said)) }
 
     room : (b : Bool) → eqb (pick b (left 6 s o) full .number) 0 ≡ false → pick b (left 6 s o) full ≡ left (pick b (left 6 s o) full .number) s o
     room true h = refl
@@ -72,7 +72,7 @@ told-link l c = go (eqb (reply l c .said .refusal) 0) refl
     s = recordOctets l
 
     full : Done
-    full = record { number = 0; link = recordOctets (reply l c .link); answer = sets (replicate 22 0) 0 (saidOctets (reply l c .said)) }
+    full = record { number = 0; link = recordOctets (reply l c .link); answer = sets (replicate 22 0) 0 (answerOctets (reply l c .said)) }
 
     go : (b : Bool) → eqb (reply l c .said .refusal) 0 ≡ b → pick b full (left (reply l c .said .refusal) s (replicate 22 0)) .link ≡ recordOctets (reply l c .link)
     go true e = refl

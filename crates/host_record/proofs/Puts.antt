@@ -7,7 +7,7 @@ use lib.ListN.{length, getD, set, drop, length-append, drop-of-length-le}
 use lib.Seq.{sets, sets-eq, drop-cons}
 use borrow.Author.Tests.{eq-eqb, ne-eqb}
 use Rattle.link.specs.declared.record.Link.{Link}
-use Rattle.host_record.specs.StoredLayout.{quad, quads, four, recordOctets, wordAt, words, saved}
+use Rattle.host_record.specs.RecordLayout.{quad, quads, four, recordOctets, wordAt, words, saved}
 use Rattle.host_record.specs.laws.Back.{length-quads}
 
 add-one : (i : ℕ) → i + 1 ≡ suc i

@@ -10,8 +10,8 @@ use Rattle.ground_answer.specs.declared.fresh.Opened.{Opened}
 use Rattle.ground.specs.declared.call.Call.{Call}
 use Rattle.ground_answer.specs.Fresh.{opened}
 use Rattle.ground.specs.Runs.{answered}
-use Rattle.host_record.specs.StoredLayout.{linkOf, recordOctets}
-use Rattle.host_record.specs.SaidLayout.{saidOctets}
+use Rattle.host_record.specs.RecordLayout.{linkOf, recordOctets}
+use Rattle.host_record.specs.AnswerLayout.{answerOctets}
 use Rattle.host_record.specs.Hosting.{hosted, told, Hosts, nineOf, made, opensInto, Makes}
 
 module _ (call : Call) (octets s o : List ℕ) where
@@ -29,7 +29,7 @@ module _ (call : Call) (octets s o : List ℕ) where
       unfolding hosted told
       no-room l = rw (eq-eqb (length s) 77 h, ← e, eq-eqb (a .said .refusal) 0 n, lt-ltb (length o) 22 l) (record { number-is = refl; link-is = refl; answer-is = refl })
 
-      pub accepted : 22 ≤ length o → (x y : List ℕ) → x ≡ recordOctets (a .link) → y ≡ sets o 0 (saidOctets (a .said)) → Hosts (hosted call octets s o) 0 x y
+      pub accepted : 22 ≤ length o → (x y : List ℕ) → x ≡ recordOctets (a .link) → y ≡ sets o 0 (answerOctets (a .said)) → Hosts (hosted call octets s o) 0 x y
       unfolding hosted told
       accepted l x y p q = rw (eq-eqb (length s) 77 h, ← e, eq-eqb (a .said .refusal) 0 n, le-ltb (length o) 22 l) (record { number-is = refl; link-is = p; answer-is = q })
 

@@ -11,8 +11,8 @@ use Rattle.ground_answer.specs.declared.fresh.Opened.{Opened}
 use Rattle.ground.specs.declared.call.Call.{Call}
 use Rattle.ground_answer.specs.Fresh.{opened}
 use Rattle.ground.specs.Runs.{answered, Made}
-use Rattle.host_record.specs.StoredLayout.{linkOf, recordOctets}
-use Rattle.host_record.specs.SaidLayout.{saidOctets}
+use Rattle.host_record.specs.RecordLayout.{linkOf, recordOctets}
+use Rattle.host_record.specs.AnswerLayout.{answerOctets}
 
 -- the number that a call gives, and the two buffers after it
 pub record Done : Type 0 where
@@ -28,7 +28,7 @@ left n s o = record { number = n; link = s; answer = o }
 unfoldable pub told : List ℕ → List ℕ → Answer → Done
 told s o a =
     pick (eqb (a .said .refusal) 0)
-    (pick (ltb (length o) 22) (left 6 s o) (record { number = 0; link = recordOctets (a .link); answer = sets o 0 (saidOctets (a .said)) }))
+    (pick (ltb (length o) 22) (left 6 s o) (record { number = 0; link = recordOctets (a .link); answer = sets o 0 (answerOctets (a .said)) }))
     (left (a .said .refusal) s o)
 
 -- the call by value on the record that the octets spell; other than 77 octets are no record: 29

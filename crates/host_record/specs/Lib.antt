@@ -1,4 +1,4 @@
-pub mod StoredLayout
+pub mod RecordLayout
 pub mod laws
-pub mod SaidLayout
+pub mod AnswerLayout
 pub mod Hosting

@@ -3,9 +3,9 @@ use ground_answer::answer::Said;
 use host_numbers::copy::copy_octets;
 ghost use mathlib.Core.Path.{_≡_};
 ghost use lib.Seq.{sets};
-ghost use Rattle.host_record.specs.SaidLayout.{most8, saidOctets};
+ghost use Rattle.host_record.specs.AnswerLayout.{most8, answerOctets};
 
-pub const SAID: usize = 22;
+pub const ANSWER: usize = 22;
 
 // No list has more than eight, so nothing is lost.
 fn count(n: usize) -> u8
@@ -14,8 +14,8 @@ fn count(n: usize) -> u8
     if n < 8 { n as u8 } else { 8 }
 }
 
-fn said_octets(s: Said) -> [u8; 22]
-    ensures { λ r. ⌜ r ≡ saidOctets s ⌝ }
+fn answer_octets(s: Said) -> [u8; 22]
+    ensures { λ r. ⌜ r ≡ answerOctets s ⌝ }
 {
     let w = s.reason;
     let acts = s.acts;
@@ -50,9 +50,9 @@ fn said_octets(s: Said) -> [u8; 22]
     ]
 }
 
-pub fn put_said(s: Said, out: &mut [u8])
-    ensures { λ _. ⌜ now (out .exit) ≡ sets (now (out .entry)) 0 (saidOctets s) ⌝ }
+pub fn save_answer(s: Said, out: &mut [u8])
+    ensures { λ _. ⌜ now (out .exit) ≡ sets (now (out .entry)) 0 (answerOctets s) ⌝ }
 {
-    let octets = said_octets(s);
+    let octets = answer_octets(s);
     copy_octets(&octets, out);
 }

@@ -1,4 +1,4 @@
-// The calls on the link record and its answer as octets, for a host that keeps them in its own memory.
+// The link record and an answer as octets, and the calls on them, for a host that keeps them in its own memory.
 pub mod answer;
 mod put;
 pub mod record;

@@ -3,7 +3,7 @@ ghost use mathlib.Core.Path.{_≡_};
 ghost use Prim.Native.Nat.{_+_, _≤_};
 ghost use lib.ListN.{length};
 ghost use lib.Seq.{sets};
-ghost use Rattle.host_record.specs.StoredLayout.{quad, quads};
+ghost use Rattle.host_record.specs.RecordLayout.{quad, quads};
 
 fn put_word(out: &mut [u8], at: usize, w: u32)
     requires { ⌜ at + 4 ≤ length (now out) ⌝ }

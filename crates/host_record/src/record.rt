@@ -5,7 +5,7 @@ ghost use mathlib.Core.Path.{_≡_};
 ghost use Prim.Native.Nat.{_≤_};
 ghost use lib.ListN.{length, getD};
 ghost use lib.Seq.{sets};
-ghost use Rattle.host_record.specs.StoredLayout.{wordAt, words, four, linkOf, recordOctets, saved};
+ghost use Rattle.host_record.specs.RecordLayout.{wordAt, words, four, linkOf, recordOctets, saved};
 
 pub const RECORD: usize = 77;
 

@@ -1,6 +1,6 @@
 // One call on the record that a host keeps, and a new record.
-use crate::answer::SAID;
-use crate::answer::put_said;
+use crate::answer::ANSWER;
+use crate::answer::save_answer;
 use crate::record::RECORD;
 use crate::record::load;
 use crate::record::save;
@@ -24,12 +24,12 @@ pub fn step(link: &mut [u8], call: Call, octets: &[u8], out: &mut [u8]) -> u8
     if refusal != 0 {
         return refusal;
     }
-    if out.len() < SAID {
+    if out.len() < ANSWER {
         return 6;
     }
     let after = a.link;
     save(after, link);
-    put_said(said, out);
+    save_answer(said, out);
     0
 }
 

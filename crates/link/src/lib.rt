@@ -1,4 +1,4 @@
-// One link: the record that a host holds, the check of it, and what time does to its timers.
+// One link: its record and the check of it, what time does to its timers, and the executor of moves.
 pub mod actions;
 pub mod clock;
 pub mod executor;

@@ -7,9 +7,9 @@ use Rattle.per.specs.Formats.{flagField, numField}
 use Rattle.per.proofs.Within.{forms}
 use Rattle.per.proofs.Longest.{Most, up, a-field, a-pair, a-like, a-mark, a-null, a-when, an-alt, an-unused, a-choice, a-list}
 use Rattle.pdu_parts.specs.Lists.{listed, entryC, entriesC}
-use Rattle.pdu_parts.proofs.ListsBounds.{listed-own, names-most}
-use Rattle.pdu_parts.proofs.FieldsBounds.{report-own, emergency-own, report-most, emergency-most}
-use Rattle.pdu_parts.specs.Parts.{ackedC, ackedEmergencyC, eventReportC, negativeC, entryTop, noncomplianceC}
+use Rattle.pdu_parts.proofs.ListBounds.{listed-own, names-most}
+use Rattle.pdu_parts.proofs.ReportBounds.{report-own, emergency-own, report-most, emergency-most}
+use Rattle.pdu_parts.specs.AirParts.{ackedC, ackedEmergencyC, eventReportC, negativeC, entryTop, noncomplianceC}
 use Rattle.pdu.specs.DownlinkTable.{airAlt, airC}
 
 -- ---- one form

@@ -4,12 +4,12 @@ use mathlib.Core.Bool.{Bool, true, false, cond}
 use lib.Dec.{eqb}
 use Rattle.per.specs.Formats.{field, dep, via, absent, when, altCodec, choice}
 use Rattle.pdu_parts.specs.declared.lists.Listed.{Listed}
-use Rattle.pdu_parts.specs.Table.{reportC, emergencyReportC}
+use Rattle.pdu_parts.specs.Reports.{reportC, emergencyReportC}
 use Rattle.pdu_parts.specs.Lists.{entriesC, namesC, noList}
 use Rattle.pdu.specs.declared.downlink.Air.{Air}
 use Rattle.pdu.specs.declared.downlink.Air.the-variants.{CancelEmergency, Demand, Emergency, Event, Negative, Noncompliance, Periodic, Positive, Abort}
 use Rattle.pdu.specs.declared.downlink.AirPdu.{AirPdu}
-use Rattle.pdu_parts.specs.Parts.{ackedC, ackedEmergencyC, eventReportC, negativeC, entryTop, noncomplianceC}
+use Rattle.pdu_parts.specs.AirParts.{ackedC, ackedEmergencyC, eventReportC, negativeC, entryTop, noncomplianceC}
 use Rattle.pdu.specs.DownlinkTable.{bareAir, airAlt, airC}
 
 -- the PDU as it reads back

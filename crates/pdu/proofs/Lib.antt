@@ -4,4 +4,4 @@ pub mod DownlinkBounds
 pub mod DownlinkNorms
 pub mod Sending
 pub mod Promises
-pub mod Bench
+pub mod Examples

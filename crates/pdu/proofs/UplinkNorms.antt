@@ -8,7 +8,7 @@ use lib.Dec.{lit<}
 use borrow.Author.Tests.{ne-eqb}
 use Rattle.per.specs.Formats.{field, dep, via, only, absent, when, has, num, altCodec, choice}
 use Rattle.pdu_parts.specs.declared.interval.Interval.{Interval}
-use Rattle.pdu_parts.specs.declared.contract.Periodic.{Periodic}
+use Rattle.pdu_parts.specs.declared.periodic.Periodic.{Periodic}
 use Rattle.pdu.specs.declared.uplink.Ground.{Ground}
 use Rattle.pdu.specs.declared.uplink.Ground.the-variants.{CancelAll, CancelContract, CancelEmergencyAck, DemandContract, EventContract, ModifyEmergency, PeriodicContract, Abort}
 use Rattle.pdu_parts.specs.Interval.{fiveMinutes, isFive, sentC, sentBits}

@@ -1,12 +1,12 @@
 -- What each kind of aircraft PDU holds; for every other kind, the empty value of its format.
 use Prim.Native.Nat.{ℕ}
-use Rattle.pdu_parts.specs.declared.told.AckedReport.{AckedReport}
-use Rattle.pdu_parts.specs.declared.told.AckedEmergency.{AckedEmergency}
-use Rattle.pdu_parts.specs.declared.told.EventReport.{EventReport}
+use Rattle.pdu_parts.specs.declared.acked.AckedReport.{AckedReport}
+use Rattle.pdu_parts.specs.declared.acked.AckedEmergency.{AckedEmergency}
+use Rattle.pdu_parts.specs.declared.acked.EventReport.{EventReport}
 use Rattle.pdu_parts.specs.declared.acks.NegativeAck.{NegativeAck}
 use Rattle.pdu.specs.declared.downlink.Air.{Air}
 use Rattle.pdu.specs.declared.downlink.Air.the-variants.{CancelEmergency, Demand, Emergency, Event, Negative, Noncompliance, Periodic, Positive, Abort}
-use Rattle.pdu_parts.specs.Parts.{ackedC, ackedEmergencyC, eventReportC}
+use Rattle.pdu_parts.specs.AirParts.{ackedC, ackedEmergencyC, eventReportC}
 
 abbrev pub reportOf : Air → AckedReport
 reportOf CancelEmergency = ackedC .none

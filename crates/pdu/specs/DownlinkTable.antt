@@ -7,7 +7,7 @@ use Rattle.pdu_parts.specs.Lists.{noList}
 use Rattle.pdu.specs.declared.downlink.Air.{Air}
 use Rattle.pdu.specs.declared.downlink.Air.the-variants.{CancelEmergency, Demand, Emergency, Event, Negative, Noncompliance, Periodic, Positive, Abort}
 use Rattle.pdu.specs.declared.downlink.AirPdu.{AirPdu}
-use Rattle.pdu_parts.specs.Parts.{ackedC, ackedEmergencyC, eventReportC, negativeC, noncomplianceC}
+use Rattle.pdu_parts.specs.AirParts.{ackedC, ackedEmergencyC, eventReportC, negativeC, noncomplianceC}
 use Rattle.pdu.specs.Contents.{reportOf, emergencyOf, eventOf, negativeOf, numberOf}
 
 -- the index of a PDU

@@ -1,6 +1,6 @@
 pub mod UplinkTable
-pub mod Asked
+pub mod ElementCount
 pub mod Contents
 pub mod DownlinkTable
 pub mod Answers
-pub mod Bench
+pub mod Examples

@@ -5,7 +5,7 @@ use mathlib.Core.Bool.{true, false}
 use Rattle.per.specs.Codec.{Codec}
 use Rattle.per.specs.Formats.{null, num, ext, mask, choice, Alt, alt, unused}
 use Rattle.pdu_parts.specs.declared.interval.Interval.{Interval}
-use Rattle.pdu_parts.specs.declared.contract.Periodic.{Periodic}
+use Rattle.pdu_parts.specs.declared.periodic.Periodic.{Periodic}
 use Rattle.pdu.specs.declared.uplink.Ground.{Ground}
 use Rattle.pdu.specs.declared.uplink.Ground.the-variants.{CancelAll, CancelContract, CancelEmergencyAck, DemandContract, EventContract, ModifyEmergency, PeriodicContract, Abort}
 use Rattle.pdu_parts.specs.Interval.{intervalC, fiveMinutes}

@@ -1,4 +1,13 @@
-// Aircraft PDUs: what the aircraft sends. Each file holds types with their readers and writers.
+// Aircraft PDUs: what the aircraft sends, their reader and their writer.
+use pdu_parts::acked::AckedEmergency;
+use pdu_parts::acked::AckedReport;
+use pdu_parts::acked::EventReport;
+use pdu_parts::acked::read_acked;
+use pdu_parts::acked::read_acked_emergency;
+use pdu_parts::acked::read_event_report;
+use pdu_parts::acked::write_acked;
+use pdu_parts::acked::write_acked_emergency;
+use pdu_parts::acked::write_event_report;
 use pdu_parts::acks::NegativeAck;
 use pdu_parts::acks::read_negative;
 use pdu_parts::acks::read_noncompliance;
@@ -6,15 +15,6 @@ use pdu_parts::acks::write_negative;
 use pdu_parts::acks::write_noncompliance;
 use pdu_parts::lists::Listed;
 use pdu_parts::lists::no_list;
-use pdu_parts::told::AckedEmergency;
-use pdu_parts::told::AckedReport;
-use pdu_parts::told::EventReport;
-use pdu_parts::told::read_acked;
-use pdu_parts::told::read_acked_emergency;
-use pdu_parts::told::read_event_report;
-use pdu_parts::told::write_acked;
-use pdu_parts::told::write_acked_emergency;
-use pdu_parts::told::write_event_report;
 use per::cursor::Cursor;
 use per::pen::Pen;
 ghost use mathlib.Core.Path.{_≡_};

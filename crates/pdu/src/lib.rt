@@ -1,4 +1,4 @@
-// Whole PDUs: octets to values and values to octets, both families.
+// Whole PDUs, both families: octets to values and values to octets.
 pub mod downlink;
 pub mod uplink;
 

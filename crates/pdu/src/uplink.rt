@@ -1,18 +1,18 @@
-// Ground PDUs: what the ground sends. Each file holds a type with its reader and writer.
-use pdu_parts::contract::Periodic;
-use pdu_parts::contract::asked_periodic;
-use pdu_parts::contract::read_periodic;
-use pdu_parts::contract::write_periodic;
+// Ground PDUs: what the ground sends, their reader, their writer, and how many elements a contract asks for.
 use pdu_parts::interval::Interval;
 use pdu_parts::interval::read_interval;
 use pdu_parts::interval::write_interval;
+use pdu_parts::periodic::Periodic;
+use pdu_parts::periodic::count_periodic;
+use pdu_parts::periodic::read_periodic;
+use pdu_parts::periodic::write_periodic;
 use per::cursor::Cursor;
 use per::pen::Pen;
 ghost use mathlib.Core.Path.{_≡_};
 ghost use Rattle.per.specs.Reading.{Reads};
 ghost use Rattle.per.specs.Writing.{Writes};
 ghost use Rattle.pdu.specs.UplinkTable.{groundTag, groundAlt, groundC};
-ghost use Rattle.pdu.specs.Asked.{askedOf};
+ghost use Rattle.pdu.specs.ElementCount.{elementCount};
 
 // The numbers are those of 01: 0 event or 1 periodic to cancel, the presence bits of a contract as one number, the reason of an abort.
 pub enum Ground {
@@ -163,8 +163,8 @@ pub fn write_ground(p: Pen, out: &mut [u8; 128], g: Ground) -> Pen
 }
 
 // How many elements a contract asks for: the ones of its presence bits.
-pub fn asked(g: Ground) -> u32
-    ensures { λ r. ⌜ r ≡ askedOf g ⌝ }
+pub fn count_elements(g: Ground) -> u32
+    ensures { λ r. ⌜ r ≡ elementCount g ⌝ }
 {
     match g {
         Ground::CancelAll => 0,
@@ -173,7 +173,7 @@ pub fn asked(g: Ground) -> u32
         Ground::DemandContract(v) => u32::count_ones(v),
         Ground::EventContract(v) => u32::count_ones(v),
         Ground::ModifyEmergency(_) => 0,
-        Ground::PeriodicContract(a) => asked_periodic(a),
+        Ground::PeriodicContract(a) => count_periodic(a),
         Ground::Abort(_) => 0,
     }
 }

@@ -8,8 +8,8 @@ use native.Mathlib.Omega.{arith}
 use lib.Count.{ones, ones-step, ones-le}
 use Rattle.per.specs.Bits.{ofBit, toBit, toBits}
 use Rattle.per.specs.laws.Bits.{of-to}
-use Rattle.pdu_parts.specs.Ones.{trues, onesOf, askedPeriodic}
-use Rattle.pdu_parts.specs.declared.contract.Periodic.{Periodic}
+use Rattle.pdu_parts.specs.Ones.{trues, onesOf, periodicCount}
+use Rattle.pdu_parts.specs.declared.periodic.Periodic.{Periodic}
 use Rattle.pdu_parts.specs.Interval.{isFive}
 
 trues-snoc : (bs : List Bool) (b : Bool) → trues (bs ++ (b ∷ [])) ≡ trues bs + ofBit b
@@ -32,10 +32,10 @@ count-is v h = ones-bits 32 v h
 pub count-few : (v : ℕ) → v < 2 ^ 32 → ones v ≤ 32
 count-few v h = ones-le 32 v h
 
-pub asked-five : (a : Periodic) (b : Bool) → b ≡ isFive (a .interval) → b ≡ true → a .elements < 2 ^ 32 → ones (a .elements) ≡ askedPeriodic a
-unfolding askedPeriodic ofBit
-asked-five a b e t h = rw (← e, t) (count-is (a .elements) h ∙ omega arith)
+pub count-five : (a : Periodic) (b : Bool) → b ≡ isFive (a .interval) → b ≡ true → a .elements < 2 ^ 32 → ones (a .elements) ≡ periodicCount a
+unfolding periodicCount ofBit
+count-five a b e t h = rw (← e, t) (count-is (a .elements) h ∙ omega arith)
 
-pub asked-other : (a : Periodic) (b : Bool) → b ≡ isFive (a .interval) → b ≡ false → a .elements < 2 ^ 32 → ones (a .elements) + 1 ≡ askedPeriodic a
-unfolding askedPeriodic ofBit
-asked-other a b e t h = rw (← e, t) (ap (λ (n : ℕ). n + 1) (count-is (a .elements) h))
+pub count-other : (a : Periodic) (b : Bool) → b ≡ isFive (a .interval) → b ≡ false → a .elements < 2 ^ 32 → ones (a .elements) + 1 ≡ periodicCount a
+unfolding periodicCount ofBit
+count-other a b e t h = rw (← e, t) (ap (λ (n : ℕ). n + 1) (count-is (a .elements) h))

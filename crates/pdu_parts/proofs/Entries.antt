@@ -2,7 +2,7 @@
 use Prim.Native.Nat.{ℕ, zero, suc}
 use mathlib.Core.Path.{_≡_, refl}
 use Rattle.per.specs.Formats.{field, dep, via, num, ext}
-use Rattle.pdu_parts.specs.Parts.{entryTop}
+use Rattle.pdu_parts.specs.AirParts.{entryTop}
 
 pub entry-rest : (k : ℕ) → (k ≡ 0 → ⊥) → (k ≡ 1 → ⊥) → 7 ≡ entryTop k
 entry-rest zero h l = absurd (h refl)

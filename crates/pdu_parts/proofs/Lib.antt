@@ -1,8 +1,8 @@
-pub mod ListsLaws
-pub mod ListsBounds
-pub mod ListsNorms
-pub mod FieldsBounds
-pub mod FieldsNorms
+pub mod ListLaws
+pub mod ListBounds
+pub mod ListNorms
+pub mod ReportBounds
+pub mod ReportNorms
 pub mod Counting
 pub mod Intervals
 pub mod Entries

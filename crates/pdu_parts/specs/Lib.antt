@@ -1,8 +1,8 @@
 pub mod Lists
-pub mod Inner
-pub mod Table
+pub mod ListsInner
+pub mod Reports
 pub mod Interval
 pub mod Periodic
 pub mod Ones
 pub mod laws
-pub mod Parts
+pub mod AirParts

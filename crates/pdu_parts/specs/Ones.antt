@@ -3,7 +3,7 @@ use Prim.Native.Nat.{ℕ, _+_}
 use mathlib.Core.Bool.{Bool, not}
 use mathlib.Core.List.{List, [], _∷_}
 use Rattle.per.specs.Bits.{ofBit, toBits}
-use Rattle.pdu_parts.specs.declared.contract.Periodic.{Periodic}
+use Rattle.pdu_parts.specs.declared.periodic.Periodic.{Periodic}
 use Rattle.pdu_parts.specs.Interval.{isFive}
 
 -- how many of some bits are 1
@@ -16,5 +16,5 @@ unfoldable pub onesOf : ℕ → ℕ
 onesOf v = trues (toBits 32 v)
 
 -- those of the moduli, and that of the interval where it is sent
-unfoldable pub askedPeriodic : Periodic → ℕ
-askedPeriodic a = onesOf (a .elements) + ofBit (not (isFive (a .interval)))
+unfoldable pub periodicCount : Periodic → ℕ
+periodicCount a = onesOf (a .elements) + ofBit (not (isFive (a .interval)))

@@ -3,7 +3,7 @@ use Prim.Native.Nat.{_%_}
 use lib.Dec.{leb}
 use Rattle.per.specs.Codec.{Codec, unless}
 use Rattle.per.specs.Formats.{dep, via}
-use Rattle.pdu_parts.specs.declared.contract.Periodic.{Periodic}
+use Rattle.pdu_parts.specs.declared.periodic.Periodic.{Periodic}
 use Rattle.pdu_parts.specs.Interval.{isFive, periodicBits, periodicRest, sentBits}
 use Rattle.pdu_parts.specs.laws.Periodic.{periodic-left}
 

@@ -13,7 +13,7 @@ ghost use Rattle.per.specs.Formats.{when};
 ghost use Rattle.per.specs.Reading.{Reads};
 ghost use Rattle.per.specs.Writing.{Writes};
 ghost use Rattle.pdu_parts.specs.Lists.{namesC, noList};
-ghost use Rattle.pdu_parts.specs.Parts.{negativeC, noncomplianceC, entryTop};
+ghost use Rattle.pdu_parts.specs.AirParts.{negativeC, noncomplianceC, entryTop};
 
 // The request that is refused, and why.
 pub struct NegativeAck {

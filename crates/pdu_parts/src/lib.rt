@@ -1,11 +1,9 @@
-// The parts of reports: position, time, figure of merit, the report itself. Each file holds a type with its reader and writer.
-// Contracts: the interval between reports, and the periodic contract. Each file holds a type with its reader and writer.
-// What aircraft PDUs hold beside their index: reports with an ack, acks, notices.
+// The parts of PDUs: position, time, merit and reports; lists; intervals and the periodic contract; acks and notices. A file holds types with their readers and writers.
+pub mod acked;
 pub mod acks;
-pub mod contract;
 pub mod interval;
 pub mod lists;
+pub mod periodic;
 pub mod position;
 pub mod report;
 pub mod time;
-pub mod told;

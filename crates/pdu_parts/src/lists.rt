@@ -9,7 +9,7 @@ ghost use Rattle.per.specs.Formats.{vec};
 ghost use Rattle.per.specs.Reading.{Reads};
 ghost use Rattle.per.specs.Writing.{Writes};
 ghost use Rattle.pdu_parts.specs.Lists.{listed, entryC, entriesC, namesC, noList};
-ghost use Rattle.pdu_parts.specs.Inner.{Filled};
+ghost use Rattle.pdu_parts.specs.ListsInner.{Filled};
 
 // Entries past the count are 0 when read, and are no part of the value.
 pub struct Listed {

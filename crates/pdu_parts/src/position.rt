@@ -4,7 +4,7 @@ use per::cursor::Signed;
 use per::pen::Pen;
 ghost use Rattle.per.specs.Reading.{Reads};
 ghost use Rattle.per.specs.Writing.{Writes};
-ghost use Rattle.pdu_parts.specs.Table.{angleC, positionC};
+ghost use Rattle.pdu_parts.specs.Reports.{angleC, positionC};
 
 // Degrees, minutes and tenth-seconds. Minus zero and plus zero stay different.
 pub struct Angle {

@@ -13,7 +13,7 @@ use per::cursor::present;
 use per::pen::Pen;
 ghost use Rattle.per.specs.Reading.{Reads};
 ghost use Rattle.per.specs.Writing.{Writes};
-ghost use Rattle.pdu_parts.specs.Table.{fixC, reportC, emergencyReportC};
+ghost use Rattle.pdu_parts.specs.Reports.{fixC, reportC, emergencyReportC};
 
 // What every report has.
 pub struct Fix {

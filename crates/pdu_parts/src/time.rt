@@ -3,7 +3,7 @@ use per::cursor::Cursor;
 use per::pen::Pen;
 ghost use Rattle.per.specs.Reading.{Reads};
 ghost use Rattle.per.specs.Writing.{Writes};
-ghost use Rattle.pdu_parts.specs.Table.{timeC, meritC};
+ghost use Rattle.pdu_parts.specs.Reports.{timeC, meritC};
 
 // Any day of 1 to 31 goes with any month.
 pub struct Time {

@@ -4,7 +4,7 @@ use crate::form::number;
 use crate::form::put_form;
 use crate::lists::NAMES;
 use crate::lists::put_list;
-use crate::plain::Page;
+use crate::page::Page;
 use crate::words::ABORT;
 use crate::words::ACCURACY;
 use crate::words::ELEMENT;

@@ -1,7 +1,7 @@
 // A PDU as its octets, written back from its value.
 use crate::line::put_refused;
 use crate::line::shown;
-use crate::plain::Page;
+use crate::page::Page;
 use pdu::downlink::Air;
 use pdu::downlink::AirPdu;
 use pdu::uplink::Ground;

@@ -5,7 +5,7 @@
 //   '      the octet of that number
 //   &      the word of that number
 //   {a|b}  the text at that place, or nothing past the last. Signs in a text that is not shown take their numbers too; no text holds a choice.
-use crate::plain::Page;
+use crate::page::Page;
 use crate::words::put_word;
 use std::num::wrapping_add_u32;
 use text::put_byte;

@@ -1,7 +1,7 @@
 // Ground PDUs. Their numbers: 0 the kind, 1 what goes with it, 2 and 3 an interval, 4 to 8 how often an element of a report comes.
 use crate::form::number;
 use crate::form::put_form;
-use crate::plain::Page;
+use crate::page::Page;
 use crate::words::ABORT;
 use crate::words::ELEMENT;
 use crate::words::EVENT;

@@ -1,3 +1,4 @@
+// A PDU as a line for a person, in the words of 01, 002 and 003; lines of PDUs from standard input, an answer for each.
 pub mod air;
 mod code;
 mod form;
@@ -5,6 +6,6 @@ pub mod ground;
 mod line;
 pub mod lines;
 mod lists;
-pub mod plain;
+pub mod page;
 mod tell;
 pub mod words;

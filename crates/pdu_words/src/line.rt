@@ -1,7 +1,7 @@
 // The answer to one line: its word, the octets of its PDU, and what the task says of them. A line that is not as 01 writes lines is 17.
 use crate::code;
 use crate::lines::Task;
-use crate::plain::Page;
+use crate::page::Page;
 use crate::tell;
 use pdu::AirAnswer;
 use pdu::AirReading;

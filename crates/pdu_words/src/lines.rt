@@ -1,7 +1,7 @@
 // Lines `air HEX` and `ground HEX` from standard input, an answer for each to standard output: what the programs share.
 use crate::line::say_line;
 use crate::line::shown;
-use crate::plain::Page;
+use crate::page::Page;
 use libc::STDIN_FILENO;
 use libc::STDOUT_FILENO;
 

@@ -1,6 +1,6 @@
 // The list of an aircraft PDU: names of ground systems, eight octets each, or the entries of a noncompliance, an octet each.
 use crate::form::put_form;
-use crate::plain::Page;
+use crate::page::Page;
 use crate::words::word;
 use text::least;
 

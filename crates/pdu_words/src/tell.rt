@@ -1,5 +1,5 @@
 // A PDU in words for a person.
-use crate::plain::Page;
+use crate::page::Page;
 use host_numbers::downlink::flat_air;
 use host_numbers::uplink::flat_ground;
 use pdu::downlink::Air;

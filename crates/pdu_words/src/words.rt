@@ -1,6 +1,6 @@
 // Names of numbers: 01's word where it has one, else 002's, and 003's where 002 has none.
 use crate::form::wait_after;
-use crate::plain::Page;
+use crate::page::Page;
 use std::num::wrapping_add_u32;
 use text::put_byte;
 

@@ -16,7 +16,7 @@ use Rattle.per.specs.Field.{Field, settle}
 use Rattle.per.specs.Formats.{field, numField, num, countField, count, vec, dep, via, only, absent, when, ext, extension, pair, Alt, altCodec, choice, choice-left, index}
 use Rattle.per.specs.Pdu.{window}
 use Rattle.per.specs.Reading.{Reads}
-use Rattle.per.specs.Inner.{settled}
+use Rattle.per.specs.ReadingInner.{settled}
 
 -- one after the other
 pub then : {A B : Type 0} {c : Codec A} {d : Codec B} {s : List ℕ} {j n m : Cursor} {a : A} {b : B}

@@ -14,7 +14,7 @@ use Rattle.per.specs.Codec.{Codec, first, upto}
 use Rattle.per.specs.Field.{Field}
 use Rattle.per.specs.Formats.{field, vec, dep, via, only, absent, when, ext, extension, Alt, altCodec, choice, choice-left, index}
 use Rattle.per.specs.Writing.{putBits, onward, barred, Ink, ink, Writes}
-use Rattle.per.specs.PenInner.{Inked}
+use Rattle.per.specs.WritingInner.{Inked}
 use Rattle.per.proofs.Puts.{put-past, put-append}
 
 -- a pen that holds a refusal is kept, by every codec

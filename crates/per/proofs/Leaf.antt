@@ -18,7 +18,7 @@ use Rattle.per.specs.Field.{Field, settle}
 use Rattle.per.specs.Formats.{field, run}
 use Rattle.per.specs.Pdu.{window}
 use Rattle.per.specs.Reading.{Reads}
-use Rattle.per.specs.Inner.{settled}
+use Rattle.per.specs.ReadingInner.{settled}
 
 -- a cursor that holds a refusal is kept, by every codec
 pub reads-kept : {A : Type 0} (c : Codec A) (s : List ℕ) (j : Cursor) → (j .refusal ≡ 0 → ⊥) → Reads c s j (c .none) j

@@ -2,13 +2,13 @@ pub mod Octets
 pub mod Runs
 pub mod Leaf
 pub mod Ends
-pub mod Signs
+pub mod SignedRead
 pub mod Compose
 pub mod Within
 pub mod RoundTrip
 pub mod Longest
 pub mod Puts
 pub mod Inks
-pub mod PenSigns
+pub mod SignedWrite
 pub mod Checks
 pub mod Sheets

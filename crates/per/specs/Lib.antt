@@ -5,7 +5,7 @@ pub mod Shapes
 pub mod Formats
 pub mod Pdu
 pub mod Reading
-pub mod Inner
+pub mod ReadingInner
 pub mod laws
 pub mod Writing
-pub mod PenInner
+pub mod WritingInner

@@ -1,8 +1,8 @@
 // Reading: a cursor by value that keeps its first refusal. A read on a cursor that holds one gives the empty value and the same cursor.
-use crate::bits::bits_at;
-use crate::bits::left;
-use crate::bits::room;
-use crate::bits::width_of;
+use crate::read_bits::bits_at;
+use crate::read_bits::left;
+use crate::read_bits::room;
+use crate::read_bits::width_of;
 ghost use mathlib.Core.Path.{_≡_};
 ghost use mathlib.Core.Bool.{not};
 ghost use Prim.Native.Nat.{_+_, _-_};
@@ -11,7 +11,7 @@ ghost use Rattle.per.specs.Codec.{unless};
 ghost use Rattle.per.specs.Formats.{run, num, flag, extension, signed, mask, maskBad, has, index, count, when};
 ghost use Rattle.per.specs.Pdu.{window, start, ending, finish};
 ghost use Rattle.per.specs.Reading.{Reads};
-ghost use Rattle.per.specs.Inner.{settled};
+ghost use Rattle.per.specs.ReadingInner.{settled};
 
 // Where reading stands, and the first refusal it met (0: none).
 pub struct Cursor {

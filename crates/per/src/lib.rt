@@ -1,5 +1,5 @@
-// Unaligned PER (X.691): the formats of messages as codecs, and a cursor that reads runs of bits. Knows nothing of ADS.
-pub mod bits;
+// Unaligned PER: formats that carry their laws, the cursor that reads, the pen that writes. Knows nothing of ADS.
 pub mod cursor;
 pub mod pen;
-mod pen_bits;
+pub mod read_bits;
+mod write_bits;

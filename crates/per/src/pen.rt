@@ -1,9 +1,9 @@
 // Writing: a pen by value over 128 lent octets that keeps its first refusal. From then on it writes nothing.
-use crate::bits::width_of;
 use crate::cursor::Signed;
 use crate::cursor::mask_bad;
-use crate::pen_bits::pow2;
-use crate::pen_bits::put_bits;
+use crate::read_bits::width_of;
+use crate::write_bits::pow2;
+use crate::write_bits::put_bits;
 ghost use mathlib.Core.Path.{_≡_};
 ghost use Prim.Native.Nat.{_≤_};
 ghost use mathlib.Core.List.{_++_};
@@ -11,7 +11,7 @@ ghost use lib.ListN.{length, take, drop};
 ghost use Rattle.per.specs.Bits.{ofBit};
 ghost use Rattle.per.specs.Formats.{run, num, flag, extension, signed, mask, index, count, when};
 ghost use Rattle.per.specs.Writing.{onward, barred, Writes, Delivers};
-ghost use Rattle.per.specs.PenInner.{Inked, Raised};
+ghost use Rattle.per.specs.WritingInner.{Inked, Raised};
 
 // Where writing stands, and the first refusal it met (0: none).
 pub struct Pen {

@@ -1,4 +1,4 @@
-// Text on lent octets: words, hexadecimal octets in lower case, whole numbers; and writing such text onto a lent page.
+// Text on lent octets: words, hexadecimal, whole numbers.
 pub mod digits;
 
 ghost use mathlib.Core.Path.{_≡_};

@@ -6,7 +6,7 @@ use native.Mathlib.Omega.{arith}
 use lib.ListN.{length, getD, take, drop, length-append, take-append-drop, drop-of-length-le}
 use lib.Seq.{getD-append-add, drop-cons, drop-drop}
 use Rattle.link.specs.declared.record.Link.{Link}
-use Rattle.host_record.specs.StoredLayout.{quad, quads, four, recordOctets, wordAt, words, linkOf}
+use Rattle.host_record.specs.RecordLayout.{quad, quads, four, recordOctets, wordAt, words, linkOf}
 
 -- ---- four octets and their number
 quad-word : (w : ℕ) → ((w / 16777216 * 256 + w / 65536 % 256) * 256 + w / 256 % 256) * 256 + w % 256 ≡ w

@@ -7,8 +7,8 @@ use lib.ListN.{length, take, length-take}
 use lib.Seq.{length-take-le}
 use denote.Ref.{now}
 use Rattle.text.proofs.Laws.{take-least}
-use Rattle.bench_line.specs.Lines.{heard}
-use Rattle.bench_line.proofs.Hearing.{with-room}
+use Rattle.bench_line.specs.Lines.{parsedIn}
+use Rattle.bench_line.proofs.LineCalls.{with-room}
 use Rattle.bench.specs.Replies.{answerReply, playReply}
 use borrow.Author.Needs.{needs}
 use Rattle.bench.proofs.reply.play.Statement.{statement}
@@ -17,11 +17,11 @@ use Rattle.bench.proofs.reply.play.Tie as tie
 blank-requires : tie.Need-blank-requires
 blank-requires c κs = search needs
 
-slice-aggregate-asked : tie.Need-slice-aggregate-asked
-slice-aggregate-asked c = search needs
+slice-aggregate-parse-line : tie.Need-slice-aggregate-parse-line
+slice-aggregate-parse-line c = search needs
 
-asked-requires : tie.Need-asked-requires
-asked-requires c κs = search needs
+parse-line-requires : tie.Need-parse-line-requires
+parse-line-requires c κs = search needs
 
 enum-known-told : tie.Need-enum-known-told
 enum-known-told c = search needs
@@ -36,12 +36,12 @@ same-length : tie.Need-same-length
 same-length c = search needs
 
 returns : tie.Need-returns
-unfolding playReply heard
+unfolding playReply parsedIn
 returns c =
     let k = c .before .before .before .before .before .before .before in
     let line = now (k .before .before .before .before .before .args .line) in
     let is = with-room (length (k .before .before .blank .result)) line (omega (arith, k .before .before .blank .ensures)) in
-    rw (← is, ← k .asked .ensures, c .before .before .before .before .enum-told .given .1) (c .before .before .refuse-line .ensures)
+    rw (← is, ← k .parse-line .ensures, c .before .before .before .before .enum-told .given .1) (c .before .before .refuse-line .ensures)
 
 least-requires : tie.Need-least-requires
 least-requires c κs = search needs
@@ -58,17 +58,17 @@ answer-by-requires c κs = search needs
 array-share-prefix-octets-2 : tie.Need-array-share-prefix-octets-2
 array-share-prefix-octets-2 c = search needs
 
-slice-aggregate-put-said : tie.Need-slice-aggregate-put-said
-slice-aggregate-put-said c = sym (length-take-le _ _ (omega (arith, c .before .before .before .before .before .before .least .ensures .0)))
+slice-aggregate-put-answer : tie.Need-slice-aggregate-put-answer
+slice-aggregate-put-answer c = sym (length-take-le _ _ (omega (arith, c .before .before .before .before .before .before .least .ensures .0)))
 
-put-said-requires : tie.Need-put-said-requires
-put-said-requires c κs = search needs
+put-answer-requires : tie.Need-put-answer-requires
+put-answer-requires c κs = search needs
 
 same-length-2 : tie.Need-same-length-2
 same-length-2 c = search needs
 
 returns-2 : tie.Need-returns-2
-unfolding playReply heard answerReply
+unfolding playReply parsedIn answerReply
 returns-2 c =
     let a = c .before .before .before .before .before .before .before in
     let l = a .before .before in
@@ -76,20 +76,20 @@ returns-2 c =
     let k = t .before .before .before in
     let line = now (k .before .before .before .before .before .args .line) in
     let blank = k .before .before .blank in
-    let octets = k .asked .last .1 .0 in
+    let octets = k .parse-line .last .1 .0 in
     let is = with-room (length (blank .result)) line (omega (arith, blank .ensures)) in
-    let whole = k .asked .kept .1 .0 ∙ sym (blank .ensures) in
+    let whole = k .parse-line .kept .1 .0 ∙ sym (blank .ensures) in
     let short : length (take (l .least .result) octets) ≤ 2048 = omega (arith, l .least .ensures .0, length-take (l .least .result) octets, min-le-left (l .least .result) (length octets)) in
-    rw (← is, ← k .asked .ensures, t .told .given .1, ← take-least (t .told .given .0 .1 .0) 2048 octets whole, ← l .least .ensures .1, ← a .answer-by .ensures)
-    (record { bench-is = refl; text-is = c .before .before .put-said .ensures .0; short = le-trans (c .before .before .put-said .ensures .1 short) (lit≤ tt) })
+    rw (← is, ← k .parse-line .ensures, t .told .given .1, ← take-least (t .told .given .0 .1 .0) 2048 octets whole, ← l .least .ensures .1, ← a .answer-by .ensures)
+    (record { bench-is = refl; text-is = c .before .before .put-answer .ensures .0; short = le-trans (c .before .before .put-answer .ensures .1 short) (lit≤ tt) })
 
 pub play-spec : {M : Type 1} → statement M
 play-spec =
     tie.close
     (tie.spec
     blank-requires
-    slice-aggregate-asked
-    asked-requires
+    slice-aggregate-parse-line
+    parse-line-requires
     enum-known-told
     enum-told
     refuse-line-requires
@@ -100,7 +100,7 @@ play-spec =
     slice-aggregate-answer-by
     answer-by-requires
     array-share-prefix-octets-2
-    slice-aggregate-put-said
-    put-said-requires
+    slice-aggregate-put-answer
+    put-answer-requires
     same-length-2
     returns-2)

@@ -1,7 +1,7 @@
 use mathlib.Core.Path.{refl}
 use Prim.Native.Nat.{_-_}
 use Rattle.ground_answer.specs.Fresh.{fresh}
-use Rattle.bench.specs.Trace.{cold, firstText}
+use Rattle.bench.specs.Trace.{unset, firstText}
 use borrow.Author.Needs.{needs}
 use Rattle.bench.proofs.trace.begin.Statement.{statement}
 use Rattle.bench.proofs.trace.begin.Tie as tie
@@ -16,7 +16,7 @@ same-length : tie.Need-same-length
 same-length c = search needs
 
 returns : tie.Need-returns
-unfolding firstText cold fresh
+unfolding firstText unset fresh
 returns c = (refl, refl, refl, c .before .before .put-text .ensures)
 
 pub begin-spec : {M : Type 1} → statement M

@@ -6,14 +6,14 @@ use native.Mathlib.Omega.{arith}
 use lib.ListN.{length, take}
 use denote.Ref.{now}
 use Rattle.text.specs.Page.{page, Writes}
-use Rattle.bench.specs.Trace.{saidAll, nextAll, mind}
-use Rattle.bench.proofs.Steps.{next-more, said-more, length-more, fits}
+use Rattle.bench.specs.Trace.{addedAll, nextAll, stateOf}
+use Rattle.bench.proofs.Steps.{next-more, added-more, length-more, fits}
 use borrow.Author.Needs.{needs}
 use Rattle.bench.proofs.trace.fill.Statement.{statement}
 use Rattle.bench.proofs.trace.fill.Tie as tie
 
 abbrev Inv-loop : tie.InvT-loop
-Inv-loop script line₀ out₀ lent e₀ i₀ line out e i = (i ≤ length script) × (length line ≡ length line₀) × (length out ≡ length out₀) × (mind e line ≡ nextAll (length line₀) (mind e₀ line₀) (take i script)) × Writes (page out₀ 0) (saidAll (length line₀) (mind e₀ line₀) (take i script)) (page out (e .at)) × (100000 ≤ length out₀ → length (saidAll (length line₀) (mind e₀ line₀) (take i script)) ≤ 100000) × (i ≡ 0 → e .at ≡ 0)
+Inv-loop script line₀ out₀ lent e₀ i₀ line out e i = (i ≤ length script) × (length line ≡ length line₀) × (length out ≡ length out₀) × (stateOf e line ≡ nextAll (length line₀) (stateOf e₀ line₀) (take i script)) × Writes (page out₀ 0) (addedAll (length line₀) (stateOf e₀ line₀) (take i script)) (page out (e .at)) × (100000 ≤ length out₀ → length (addedAll (length line₀) (stateOf e₀ line₀) (take i script)) ≤ 100000) × (i ≡ 0 → e .at ≡ 0)
 
 abbrev μ-loop : tie.MeasureT-loop
 μ-loop script line₀ out₀ lent e₀ i₀ line out e i = length script - i
@@ -21,11 +21,11 @@ abbrev μ-loop : tie.MeasureT-loop
 loop-holds : tie.Need-loop-holds Inv-loop μ-loop
 loop-holds c = (omega arith, refl, refl, refl, record { is = refl }, λ h. omega arith, λ z. refl)
 
-shared-slice-read-eat : tie.Need-shared-slice-read-eat Inv-loop μ-loop
-shared-slice-read-eat c = search needs
+shared-slice-read-take-octet : tie.Need-shared-slice-read-take-octet Inv-loop μ-loop
+shared-slice-read-take-octet c = search needs
 
-eat-requires : tie.Need-eat-requires Inv-loop μ-loop
-eat-requires c κs = search needs
+take-octet-requires : tie.Need-take-octet-requires Inv-loop μ-loop
+take-octet-requires c κs = search needs
 
 add-i : tie.Need-add-i Inv-loop μ-loop
 add-i c = search needs
@@ -37,15 +37,15 @@ loop-again : tie.Need-loop-again Inv-loop μ-loop
 loop-again c =
     let k = c .before .before .before .before .before .before .before .before .before .before .before .loop in
     let s = c .before .before .before .before .before .before .before .before .before .before .before .before .before .before .before .args in
-    let g = c .before .before .before .before .eat in
+    let g = c .before .before .before .before .take-octet in
     let v = k .inv in
-    let m = mind (s .d) (s .line .now) in
+    let m = stateOf (s .d) (s .line .now) in
     let most = length (s .line .now) in
     let h : k .i < length (s .script .now) = c .before .before .before .before .before .before .before .before .before .before .loop-test .taken in
-    let room : 100000 ≤ length (s .out .now) → length (saidAll most m (take (k .i + 1) (s .script .now))) ≤ 100000 =
-    λ q. let at-is = fits (s .out .now) (k .out) (k .e .at) (saidAll most m (take (k .i) (s .script .now))) (le-trans (v .5 q) q) (v .4) .1 in
-    omega (arith, at-is, ltb-true (k .e .at) 65536 (c .before .before .before .before .before .before .before .before .if1 .taken), length-more most m (s .script .now) (k .i) h (mind (k .e) (k .line)) (v .3) (g .ensures .2)) in
-    (omega arith, g .kept .1 .1 .0 ∙ v .1, g .kept .1 .1 .1 .0 ∙ v .2, next-more most m (s .script .now) (k .i) h _ (mind (k .e) (k .line)) _ (v .1) (v .3) (g .ensures .0), said-more most m (s .script .now) (k .i) h (mind (k .e) (k .line)) (v .3) (v .4) (g .ensures .1), room, λ z. absurd (omega arith))
+    let room : 100000 ≤ length (s .out .now) → length (addedAll most m (take (k .i + 1) (s .script .now))) ≤ 100000 =
+    λ q. let at-is = fits (s .out .now) (k .out) (k .e .at) (addedAll most m (take (k .i) (s .script .now))) (le-trans (v .5 q) q) (v .4) .1 in
+    omega (arith, at-is, ltb-true (k .e .at) 65536 (c .before .before .before .before .before .before .before .before .if1 .taken), length-more most m (s .script .now) (k .i) h (stateOf (k .e) (k .line)) (v .3) (g .ensures .2)) in
+    (omega arith, g .kept .1 .1 .0 ∙ v .1, g .kept .1 .1 .1 .0 ∙ v .2, next-more most m (s .script .now) (k .i) h _ (stateOf (k .e) (k .line)) _ (v .1) (v .3) (g .ensures .0), added-more most m (s .script .now) (k .i) h (stateOf (k .e) (k .line)) (v .3) (v .4) (g .ensures .1), room, λ z. absurd (omega arith))
 
 same-length : tie.Need-same-length Inv-loop μ-loop
 same-length c = c .before .before .before .loop .inv .1
@@ -78,8 +78,8 @@ fill-spec =
     Inv-loop
     μ-loop
     loop-holds
-    shared-slice-read-eat
-    eat-requires
+    shared-slice-read-take-octet
+    take-octet-requires
     add-i
     loop-less
     loop-again

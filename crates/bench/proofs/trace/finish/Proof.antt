@@ -43,7 +43,7 @@ returns-2 : tie.Need-returns-2
 returns-2 c = let s = c .before .before .before .before .before .before .before .before .before .before .before .before .before .args in
     let k = c .before .before .before .before .before .before .close-line .ensures in
     let e = last-some (s .d) (s .line .now) _ (c .before .before .before .before .before .before .before .before .before .before .least .ensures .1) (c .before .before .before .before .before .before .before .before .before .if1 .left) in
-    (rw e (after (k .3) (rw (← k .1) (c .before .before .put-end2 .ensures))), rw e (omega (arith, length-append (numbered (bumped (s .d .number)) (s .d .bench) (take (c .before .before .before .before .before .before .before .before .before .before .least .result) (s .line .now)) .text) (endText (bumped (s .d .number))), end-length (bumped (s .d .number)), k .4)))
+    (rw e (after (k .3) (rw (← k .1) (c .before .before .put-end2 .ensures))), rw e (omega (arith, length-append (numbered (bumped (s .d .number)) (s .d .setup) (take (c .before .before .before .before .before .before .before .before .before .before .least .result) (s .line .now)) .text) (endText (bumped (s .d .number))), end-length (bumped (s .d .number)), k .4)))
 
 pub finish-spec : {M : Type 1} → statement M
 finish-spec =

@@ -1,8 +1,8 @@
 use lib.ListN.{length-take, length, take, drop}
 use Rattle.text.specs.Page.{page, wrote}
 use mathlib.Core.Path.{subst, _∙_, ap, sym, _≡_, refl}
-use Rattle.bench_line.specs.Says.{entriesOf}
-use Rattle.bench_line.proofs.Saying.{entry-end, under-left, entry-step}
+use Rattle.bench_line.specs.AnswerText.{entriesOf}
+use Rattle.bench_line.proofs.AnswerTexts.{entry-end, under-left, entry-step}
 use Prim.Native.Nat.{_<_, ℕ, _-_, _≤_}
 use Rattle.text.proofs.Laws.{take-least}
 use denote.Ref.{now}

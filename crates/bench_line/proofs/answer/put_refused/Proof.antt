@@ -1,6 +1,6 @@
 use Prim.Native.Nat.{_-_}
 use Rattle.text.proofs.Pages.{after}
-use Rattle.bench_line.specs.Says.{refusedText}
+use Rattle.bench_line.specs.AnswerText.{refusedText}
 use borrow.Author.Needs.{needs}
 use Rattle.bench_line.proofs.answer.put_refused.Statement.{statement}
 use Rattle.bench_line.proofs.answer.put_refused.Tie as tie

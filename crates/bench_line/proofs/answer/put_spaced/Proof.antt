@@ -2,7 +2,7 @@ use Prim.Native.Nat.{_-_}
 use Prim.Native.Nat.{_-_}
 use denote.Ref.{now}
 use Rattle.text.proofs.Pages.{after}
-use Rattle.bench_line.proofs.Saying.{spaced-none, spaced-some}
+use Rattle.bench_line.proofs.AnswerTexts.{spaced-none, spaced-some}
 use borrow.Author.Needs.{needs}
 use Rattle.bench_line.proofs.answer.put_spaced.Statement.{statement}
 use Rattle.bench_line.proofs.answer.put_spaced.Tie as tie

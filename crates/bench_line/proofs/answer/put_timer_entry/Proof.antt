@@ -2,7 +2,7 @@ use borrow.Author.Tests.{lt-ltb, le-ltb}
 use mathlib.Core.Path.{refl}
 use Prim.Native.Nat.{_-_}
 use Rattle.text.proofs.Pages.{after}
-use Rattle.bench_line.specs.Says.{timerEntry}
+use Rattle.bench_line.specs.AnswerText.{timerEntry}
 use borrow.Author.Needs.{needs}
 use Rattle.bench_line.proofs.answer.put_timer_entry.Statement.{statement}
 use Rattle.bench_line.proofs.answer.put_timer_entry.Tie as tie

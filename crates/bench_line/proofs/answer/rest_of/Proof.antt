@@ -1,6 +1,6 @@
 use borrow.Author.Tests.{le-leb, lt-leb}
 use Prim.Native.Nat.{_-_}
-use Rattle.bench_line.specs.Says.{restOf}
+use Rattle.bench_line.specs.AnswerText.{restOf}
 use Rattle.bench_line.proofs.answer.rest_of.Statement.{statement}
 use Rattle.bench_line.proofs.answer.rest_of.Tie as tie
 

@@ -1,11 +1,11 @@
 use borrow.Author.Tests.{ne-eqb}
 use mathlib.Core.Path.{refl}
 use Prim.Native.Nat.{_-_}
-use Rattle.bench_line.specs.Lines.{heard, alone, askedBy}
-use Rattle.bench_line.proofs.Hearing.{alone-heard, elapse-heard}
+use Rattle.bench_line.specs.Lines.{parsedIn, alone, parsedBy}
+use Rattle.bench_line.proofs.LineCalls.{alone-heard, elapse-heard}
 use Prim.Native.Nat.{_-_}
-use Rattle.bench_line.specs.Lines.{alone, askedBy}
-use Rattle.bench_line.proofs.Hearing.{alone-heard, elapse-heard}
+use Rattle.bench_line.specs.Lines.{alone, parsedBy}
+use Rattle.bench_line.proofs.LineCalls.{alone-heard, elapse-heard}
 use borrow.Author.Needs.{needs}
 use Rattle.bench_line.proofs.line.call_of.Statement.{statement}
 use Rattle.bench_line.proofs.line.call_of.Tie as tie
@@ -44,56 +44,56 @@ same-length : tie.Need-same-length
 same-length c = search needs
 
 returns : tie.Need-returns
-unfolding askedBy
+unfolding parsedBy
 returns c = rw (c .before .before .before .before .match .keys1) (c .before .before .request-line .ensures)
 
 returns-2 : tie.Need-returns-2
-unfolding askedBy
+unfolding parsedBy
 returns-2 c = rw (c .before .match .keys2, c .alone .ensures) (alone-heard _ _ _)
 
 returns-3 : tie.Need-returns-3
-unfolding askedBy
+unfolding parsedBy
 returns-3 c = rw (c .before .match .keys3, c .elapse-line .ensures) (elapse-heard _ _)
 
 same-length-2 : tie.Need-same-length-2
 same-length-2 c = search needs
 
 returns-4 : tie.Need-returns-4
-unfolding askedBy
+unfolding parsedBy
 returns-4 c = rw (c .before .before .before .before .match .keys4) (c .before .before .with-octets .ensures)
 
 returns-5 : tie.Need-returns-5
-unfolding askedBy
+unfolding parsedBy
 returns-5 c = rw (c .before .match .keys5, c .alone2 .ensures) (alone-heard _ _ _)
 
 same-length-3 : tie.Need-same-length-3
 same-length-3 c = search needs
 
 returns-6 : tie.Need-returns-6
-unfolding askedBy
+unfolding parsedBy
 returns-6 c = rw (c .before .before .before .before .match .keys6) (c .before .before .with-octets2 .ensures)
 
 returns-7 : tie.Need-returns-7
-unfolding askedBy
+unfolding parsedBy
 returns-7 c = rw (c .before .match .keys7, c .alone3 .ensures) (alone-heard _ _ _)
 
 returns-8 : tie.Need-returns-8
-unfolding askedBy
+unfolding parsedBy
 returns-8 c = rw (c .before .match .keys8, c .alone4 .ensures) (alone-heard _ _ _)
 
 same-length-4 : tie.Need-same-length-4
 same-length-4 c = search needs
 
 returns-9 : tie.Need-returns-9
-unfolding askedBy
+unfolding parsedBy
 returns-9 c = rw (c .before .before .before .before .match .keys9) (c .before .before .with-octets3 .ensures)
 
 returns-10 : tie.Need-returns-10
-unfolding askedBy
+unfolding parsedBy
 returns-10 c = rw (c .before .match .keys10, c .alone5 .ensures) (alone-heard _ _ _)
 
 returns-11 : tie.Need-returns-11
-unfolding askedBy heard
+unfolding parsedBy parsedIn
 returns-11 c = simp (ne-eqb _ 2 (c .match .rest .0 .0 .0 .0 .0 .0 .0 .0 .0 .1), ne-eqb _ 3 (c .match .rest .0 .0 .0 .0 .0 .0 .0 .0 .1), ne-eqb _ 4 (c .match .rest .0 .0 .0 .0 .0 .0 .0 .1), ne-eqb _ 5 (c .match .rest .0 .0 .0 .0 .0 .0 .1), ne-eqb _ 6 (c .match .rest .0 .0 .0 .0 .0 .1), ne-eqb _ 7 (c .match .rest .0 .0 .0 .0 .1), ne-eqb _ 8 (c .match .rest .0 .0 .0 .1), ne-eqb _ 9 (c .match .rest .0 .0 .1), ne-eqb _ 10 (c .match .rest .0 .1), ne-eqb _ 11 (c .match .rest .1)) refl
 
 pub call-of-spec : {M : Type 1} → statement M

@@ -4,13 +4,13 @@ use Prim.Native.Nat.{_-_}
 use lib.ListN.{length}
 use denote.Ref.{now}
 use Rattle.text.proofs.Laws.{part-all}
-use Rattle.bench_line.specs.Lines.{elapseToldIn, elapseTold}
+use Rattle.bench_line.specs.Lines.{elapseCallIn, elapseCall}
 use borrow.Author.Needs.{needs}
 use Rattle.bench_line.proofs.line.elapse_line.Statement.{statement}
 use Rattle.bench_line.proofs.line.elapse_line.Tie as tie
 
 returns : tie.Need-returns
-unfolding elapseTold elapseToldIn
+unfolding elapseCall elapseCallIn
 returns c = rw (eq-eqb _ 0 (c .if1 .taken))
 
 sub-parse-number : tie.Need-sub-parse-number
@@ -32,11 +32,11 @@ enum-told : tie.Need-enum-told
 enum-told c = search needs
 
 returns-2 : tie.Need-returns-2
-unfolding elapseTold elapseToldIn
+unfolding elapseCall elapseCallIn
 returns-2 c = rw (ne-eqb _ 0 (c .before .before .before .before .before .if1 .left), ← part-all (now (c .before .before .before .before .before .before .before .args .tail)) 1 (length (now (c .before .before .before .before .before .before .before .args .tail))) refl, ← c .before .before .before .parse-number .ensures, c .before .v .given .1)
 
 returns-3 : tie.Need-returns-3
-unfolding elapseTold elapseToldIn
+unfolding elapseCall elapseCallIn
 returns-3 c = rw (ne-eqb _ 0 (c .before .before .before .before .if1 .left), ← part-all (now (c .before .before .before .before .before .before .args .tail)) 1 (length (now (c .before .before .before .before .before .before .args .tail))) refl, ← c .before .before .parse-number .ensures, c .enum-told .given .1)
 
 pub elapse-line-spec : {M : Type 1} → statement M

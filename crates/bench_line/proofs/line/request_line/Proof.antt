@@ -1,9 +1,9 @@
 use mathlib.Core.Path.{sym}
 use Prim.Native.Nat.{_-_}
 use lib.Seq.{length-take-le}
-use Rattle.bench_line.specs.Lines.{heldIn, heard, requestOf}
+use Rattle.bench_line.specs.Lines.{heldIn, parsedIn, requestOf}
 use Rattle.text.proofs.Laws.{take-min}
-use Rattle.bench_line.proofs.Hearing.{request-heard}
+use Rattle.bench_line.proofs.LineCalls.{request-heard}
 use borrow.Author.Needs.{needs}
 use Rattle.bench_line.proofs.line.request_line.Statement.{statement}
 use Rattle.bench_line.proofs.line.request_line.Tie as tie
@@ -26,8 +26,8 @@ slice-aggregate-decode-ground c = sym (length-take-le _ _ (c .before .least .ens
 decode-ground-requires : tie.Need-decode-ground-requires
 decode-ground-requires c κs = search needs
 
-request-told-requires : tie.Need-request-told-requires
-request-told-requires c κs = search needs
+request-call-requires : tie.Need-request-call-requires
+request-call-requires c κs = search needs
 
 enum-told : tie.Need-enum-told
 enum-told c = search needs
@@ -39,21 +39,21 @@ same-length : tie.Need-same-length
 same-length c = search needs
 
 returns : tie.Need-returns
-unfolding heard requestOf heldIn
-returns c = rw (← c .before .before .before .before .before .before .before .before .before .tail-octets .ensures, c .before .before .before .before .before .h .given .1, c .request-told .ensures, c .before .decode-ground .ensures, c .before .before .before .least .ensures .1, take-min _ _) (request-heard _ _)
+unfolding parsedIn requestOf heldIn
+returns c = rw (← c .before .before .before .before .before .before .before .before .before .tail-octets .ensures, c .before .before .before .before .before .h .given .1, c .request-call .ensures, c .before .decode-ground .ensures, c .before .before .before .least .ensures .1, take-min _ _) (request-heard _ _)
 
 same-length-2 : tie.Need-same-length-2
 same-length-2 c = search needs
 
 returns-2 : tie.Need-returns-2
-unfolding heard requestOf heldIn
+unfolding parsedIn requestOf heldIn
 returns-2 c = rw (← c .before .before .before .before .tail-octets .ensures, c .enum-told .given .1)
 
 same-length-3 : tie.Need-same-length-3
 same-length-3 c = search needs
 
 returns-3 : tie.Need-returns-3
-unfolding heard requestOf heldIn
+unfolding parsedIn requestOf heldIn
 returns-3 c = rw (← c .before .before .before .before .tail-octets .ensures, c .enum-told2 .given .1)
 
 pub request-line-spec : {M : Type 1} → statement M
@@ -66,7 +66,7 @@ request-line-spec =
     slice-reshare-prefix-decode-ground
     slice-aggregate-decode-ground
     decode-ground-requires
-    request-told-requires
+    request-call-requires
     enum-told
     enum-told-2
     same-length

@@ -2,7 +2,7 @@ use borrow.Author.Tests.{eq-eqb, ne-eqb}
 use Prim.Native.Nat.{_-_}
 use denote.Ref.{now}
 use Rattle.bench_line.specs.Lines.{fieldOf, heldIn}
-use Rattle.bench_line.proofs.Hearing.{field-heard}
+use Rattle.bench_line.proofs.LineCalls.{field-heard}
 use borrow.Author.Needs.{needs}
 use Rattle.bench_line.proofs.line.tail_octets.Statement.{statement}
 use Rattle.bench_line.proofs.line.tail_octets.Tie as tie

@@ -1,5 +1,5 @@
 use Prim.Native.Nat.{_-_}
-use Rattle.bench_line.specs.Lines.{heldIn, heard, withOctets}
+use Rattle.bench_line.specs.Lines.{heldIn, parsedIn, withOctets}
 use borrow.Author.Needs.{needs}
 use Rattle.bench_line.proofs.line.with_octets.Statement.{statement}
 use Rattle.bench_line.proofs.line.with_octets.Tie as tie
@@ -20,21 +20,21 @@ same-length : tie.Need-same-length
 same-length c = search needs
 
 returns : tie.Need-returns
-unfolding heard withOctets heldIn
+unfolding parsedIn withOctets heldIn
 returns c = rw (← c .before .before .before .before .before .tail-octets .ensures, c .before .h .given .1)
 
 same-length-2 : tie.Need-same-length-2
 same-length-2 c = search needs
 
 returns-2 : tie.Need-returns-2
-unfolding heard withOctets heldIn
+unfolding parsedIn withOctets heldIn
 returns-2 c = rw (← c .before .before .before .before .tail-octets .ensures, c .enum-told .given .1)
 
 same-length-3 : tie.Need-same-length-3
 same-length-3 c = search needs
 
 returns-3 : tie.Need-returns-3
-unfolding heard withOctets heldIn
+unfolding parsedIn withOctets heldIn
 returns-3 c = rw (← c .before .before .before .before .tail-octets .ensures, c .enum-told2 .given .1)
 
 pub with-octets-spec : {M : Type 1} → statement M

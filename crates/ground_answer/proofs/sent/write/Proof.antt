@@ -1,4 +1,4 @@
-use Rattle.ground_answer.proofs.Letters.{letter-goes, letter-stays}
+use Rattle.ground_answer.proofs.Outgoings.{letter-goes, letter-stays}
 use borrow.Author.Needs.{needs}
 use Rattle.ground_answer.proofs.sent.write.Statement.{statement}
 use Rattle.ground_answer.proofs.sent.write.Tie as tie

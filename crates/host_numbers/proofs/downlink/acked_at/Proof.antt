@@ -1,4 +1,4 @@
-use Rattle.host_numbers.specs.Airs.{ackedAt}
+use Rattle.host_numbers.specs.DownlinkNumbers.{ackedAt}
 use borrow.Author.Needs.{needs}
 use Rattle.host_numbers.proofs.downlink.acked_at.Statement.{statement}
 use Rattle.host_numbers.proofs.downlink.acked_at.Tie as tie

@@ -1,4 +1,4 @@
-use Rattle.host_numbers.specs.Airs.{airAt}
+use Rattle.host_numbers.specs.DownlinkNumbers.{airAt}
 use borrow.Author.Needs.{needs}
 use Rattle.host_numbers.proofs.downlink.air_at.Statement.{statement}
 use Rattle.host_numbers.proofs.downlink.air_at.Tie as tie

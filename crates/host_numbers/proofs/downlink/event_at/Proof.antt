@@ -1,4 +1,4 @@
-use Rattle.host_numbers.specs.Airs.{eventAt}
+use Rattle.host_numbers.specs.DownlinkNumbers.{eventAt}
 use borrow.Author.Needs.{needs}
 use Rattle.host_numbers.proofs.downlink.event_at.Statement.{statement}
 use Rattle.host_numbers.proofs.downlink.event_at.Tie as tie

@@ -1,4 +1,4 @@
-use Rattle.host_numbers.specs.Airs.{flatAir}
+use Rattle.host_numbers.specs.DownlinkNumbers.{flatAir}
 use borrow.Author.Needs.{needs}
 use Rattle.host_numbers.proofs.downlink.flat_air.Statement.{statement}
 use Rattle.host_numbers.proofs.downlink.flat_air.Tie as tie

@@ -1,8 +1,8 @@
 use mathlib.Core.Path.{sym, _∙_}
 use native.Mathlib.Omega.{arith}
 use Rattle.per.proofs.Compose.{climb}
-use Rattle.host_numbers.specs.Airs.{kindAt}
-use Rattle.host_numbers.proofs.FlatdownOthers.{other-kind}
+use Rattle.host_numbers.specs.DownlinkNumbers.{kindAt}
+use Rattle.host_numbers.proofs.DownlinkOthers.{other-kind}
 use borrow.Author.Needs.{needs}
 use Rattle.host_numbers.proofs.downlink.kind_at.Statement.{statement}
 use Rattle.host_numbers.proofs.downlink.kind_at.Tie as tie

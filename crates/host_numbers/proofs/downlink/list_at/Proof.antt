@@ -1,6 +1,6 @@
 use mathlib.Core.Path.{sym, _∙_}
 use borrow.Author.Tests.{ne-eqb}
-use Rattle.host_numbers.specs.Airs.{listAt}
+use Rattle.host_numbers.specs.DownlinkNumbers.{listAt}
 use borrow.Author.Needs.{needs}
 use Rattle.host_numbers.proofs.downlink.list_at.Statement.{statement}
 use Rattle.host_numbers.proofs.downlink.list_at.Tie as tie

@@ -1,4 +1,4 @@
-use Rattle.host_numbers.specs.Airs.{urgentAt}
+use Rattle.host_numbers.specs.DownlinkNumbers.{urgentAt}
 use borrow.Author.Needs.{needs}
 use Rattle.host_numbers.proofs.downlink.urgent_at.Statement.{statement}
 use Rattle.host_numbers.proofs.downlink.urgent_at.Tie as tie

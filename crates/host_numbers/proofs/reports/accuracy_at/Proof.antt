@@ -1,5 +1,5 @@
 use borrow.Author.Tests.{lt-ltb, le-ltb}
-use Rattle.host_numbers.specs.Fixes.{accuracyAt}
+use Rattle.host_numbers.specs.ReportNumbers.{accuracyAt}
 use borrow.Author.Needs.{needs}
 use Rattle.host_numbers.proofs.reports.accuracy_at.Statement.{statement}
 use Rattle.host_numbers.proofs.reports.accuracy_at.Tie as tie

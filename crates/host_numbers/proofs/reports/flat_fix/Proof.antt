@@ -1,4 +1,4 @@
-use Rattle.host_numbers.specs.Fixes.{flatFix}
+use Rattle.host_numbers.specs.ReportNumbers.{flatFix}
 use borrow.Author.Needs.{needs}
 use Rattle.host_numbers.proofs.reports.flat_fix.Statement.{statement}
 use Rattle.host_numbers.proofs.reports.flat_fix.Tie as tie

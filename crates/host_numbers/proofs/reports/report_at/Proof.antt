@@ -1,4 +1,4 @@
-use Rattle.host_numbers.specs.Fixes.{reportAt}
+use Rattle.host_numbers.specs.ReportNumbers.{reportAt}
 use borrow.Author.Needs.{needs}
 use Rattle.host_numbers.proofs.reports.report_at.Statement.{statement}
 use Rattle.host_numbers.proofs.reports.report_at.Tie as tie

@@ -1,4 +1,4 @@
-use Rattle.host_numbers.specs.Grounds.{flatGround}
+use Rattle.host_numbers.specs.UplinkNumbers.{flatGround}
 use borrow.Author.Needs.{needs}
 use Rattle.host_numbers.proofs.uplink.flat_ground.Statement.{statement}
 use Rattle.host_numbers.proofs.uplink.flat_ground.Tie as tie

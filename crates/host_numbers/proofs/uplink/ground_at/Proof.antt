@@ -1,8 +1,8 @@
 use mathlib.Core.Path.{sym, _∙_}
 use native.Mathlib.Omega.{arith}
 use Rattle.per.proofs.Compose.{climb}
-use Rattle.host_numbers.specs.Grounds.{groundAt}
-use Rattle.host_numbers.proofs.FlatupOthers.{other-ground}
+use Rattle.host_numbers.specs.UplinkNumbers.{groundAt}
+use Rattle.host_numbers.proofs.UplinkOthers.{other-ground}
 use borrow.Author.Needs.{needs}
 use Rattle.host_numbers.proofs.uplink.ground_at.Statement.{statement}
 use Rattle.host_numbers.proofs.uplink.ground_at.Tie as tie

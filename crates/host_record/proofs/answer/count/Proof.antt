@@ -1,5 +1,5 @@
 use borrow.Author.Tests.{lt-ltb, le-ltb}
-use Rattle.host_record.specs.SaidLayout.{most8}
+use Rattle.host_record.specs.AnswerLayout.{most8}
 use borrow.Author.Needs.{needs}
 use Rattle.host_record.proofs.answer.count.Statement.{statement}
 use Rattle.host_record.proofs.answer.count.Tie as tie

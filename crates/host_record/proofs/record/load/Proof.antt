@@ -1,4 +1,4 @@
-use Rattle.host_record.specs.StoredLayout.{linkOf}
+use Rattle.host_record.specs.RecordLayout.{linkOf}
 use borrow.Author.Needs.{needs}
 use Rattle.host_record.proofs.record.load.Statement.{statement}
 use Rattle.host_record.proofs.record.load.Tie as tie

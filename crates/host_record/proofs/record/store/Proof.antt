@@ -1,6 +1,6 @@
 use mathlib.Core.Path.{_≡_, _∙_}
 use lib.ListN.{length}
-use Rattle.host_record.specs.StoredLayout.{recordOctets}
+use Rattle.host_record.specs.RecordLayout.{recordOctets}
 use Rattle.host_record.proofs.Puts.{record-whole}
 use borrow.Author.Needs.{needs}
 use Rattle.host_record.proofs.record.store.Statement.{statement}

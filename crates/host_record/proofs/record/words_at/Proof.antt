@@ -3,7 +3,7 @@ use mathlib.Core.Path.{_≡_, refl, _∙_}
 use native.Mathlib.Omega.{arith}
 use lib.ListN.{replicate}
 use lib.Seq.{sets}
-use Rattle.host_record.specs.StoredLayout.{words}
+use Rattle.host_record.specs.RecordLayout.{words}
 use Rattle.host_record.proofs.Puts.{words-step}
 use borrow.Author.Needs.{needs}
 use Rattle.host_record.proofs.record.words_at.Statement.{statement}

@@ -37,8 +37,8 @@ returns-3 c =
 save-requires : tie.Need-save-requires
 save-requires c κs = search needs
 
-put-said-requires : tie.Need-put-said-requires
-put-said-requires c κs = search needs
+save-answer-requires : tie.Need-save-answer-requires
+save-answer-requires c κs = search needs
 
 same-length-3 : tie.Need-same-length-3
 same-length-3 c = search needs
@@ -50,7 +50,7 @@ returns-4 : tie.Need-returns-4
 returns-4 c =
     let k = c .before .before .before .before .before .before .before .before .before .before .before .before .before .before .before .before .before .before .before .args in
     let a = c .before .before .before .before .before .before .before .before .before .before .before .before .answer in
-    accepted (k .call) (k .octets .now) (k .link .now) (k .out .now) (c .before .before .before .before .before .before .before .before .before .before .before .before .before .before .before .if1 .left) (a .result) (a .ensures ∙ ap (λ (l : Link). answered l (k .call) (k .octets .now)) (c .before .before .before .before .before .before .before .before .before .before .before .before .before .load .ensures)) (c .before .before .before .before .before .before .before .before .before .before .if2 .left) (c .before .before .before .before .before .before .before .before .before .if3 .left) _ _ (c .before .before .before .before .before .before .save .ensures ∙ saved-record _ _ (c .before .before .before .before .before .before .before .before .before .before .before .before .before .before .before .if1 .left)) (c .before .before .put-said .ensures)
+    accepted (k .call) (k .octets .now) (k .link .now) (k .out .now) (c .before .before .before .before .before .before .before .before .before .before .before .before .before .before .before .if1 .left) (a .result) (a .ensures ∙ ap (λ (l : Link). answered l (k .call) (k .octets .now)) (c .before .before .before .before .before .before .before .before .before .before .before .before .before .load .ensures)) (c .before .before .before .before .before .before .before .before .before .before .if2 .left) (c .before .before .before .before .before .before .before .before .before .if3 .left) _ _ (c .before .before .before .before .before .before .save .ensures ∙ saved-record _ _ (c .before .before .before .before .before .before .before .before .before .before .before .before .before .before .before .if1 .left)) (c .before .before .save-answer .ensures)
 
 pub step-spec : {M : Type 1} → statement M
 step-spec =
@@ -64,7 +64,7 @@ step-spec =
     same-length-2
     returns-3
     save-requires
-    put-said-requires
+    save-answer-requires
     same-length-3
     same-length-4
     returns-4)

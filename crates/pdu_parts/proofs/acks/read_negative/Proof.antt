@@ -1,5 +1,5 @@
 use Rattle.per.proofs.Compose.{then, by, like, after-ext}
-use Rattle.pdu_parts.specs.Parts.{negativeC}
+use Rattle.pdu_parts.specs.AirParts.{negativeC}
 use borrow.Author.Needs.{needs}
 use Rattle.pdu_parts.proofs.acks.read_negative.Statement.{statement}
 use Rattle.pdu_parts.proofs.acks.read_negative.Tie as tie

@@ -1,5 +1,5 @@
 use Rattle.per.proofs.Compose.{by}
-use Rattle.pdu_parts.specs.Parts.{noncomplianceC}
+use Rattle.pdu_parts.specs.AirParts.{noncomplianceC}
 use borrow.Author.Needs.{needs}
 use Rattle.pdu_parts.proofs.acks.read_noncompliance.Statement.{statement}
 use Rattle.pdu_parts.proofs.acks.read_noncompliance.Tie as tie

@@ -1,6 +1,6 @@
 use mathlib.Core.Path.{refl}
 use Rattle.per.proofs.Inks.{inks-by, inks-then, inks-like, inks-ext}
-use Rattle.pdu_parts.specs.Parts.{negativeC}
+use Rattle.pdu_parts.specs.AirParts.{negativeC}
 use Rattle.pdu_parts.proofs.Entries.{ext-norm}
 use borrow.Author.Needs.{needs}
 use Rattle.pdu_parts.proofs.acks.write_negative.Statement.{statement}

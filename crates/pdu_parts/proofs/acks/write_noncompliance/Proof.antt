@@ -1,6 +1,6 @@
 use Rattle.per.specs.Formats.{field}
 use Rattle.per.proofs.Inks.{inks-by}
-use Rattle.pdu_parts.specs.Parts.{noncomplianceC}
+use Rattle.pdu_parts.specs.AirParts.{noncomplianceC}
 use borrow.Author.Needs.{needs}
 use Rattle.pdu_parts.proofs.acks.write_noncompliance.Statement.{statement}
 use Rattle.pdu_parts.proofs.acks.write_noncompliance.Tie as tie

@@ -1,4 +1,4 @@
-use Rattle.pdu_parts.proofs.ListsLaws.{entry-marked, entry-plain}
+use Rattle.pdu_parts.proofs.ListLaws.{entry-marked, entry-plain}
 use borrow.Author.Needs.{needs}
 use Rattle.pdu_parts.proofs.lists.read_entry.Statement.{statement}
 use Rattle.pdu_parts.proofs.lists.read_entry.Tie as tie

@@ -2,8 +2,8 @@ use mathlib.Core.Path.{_≡_}
 use Prim.Native.Nat.{_-_, _≤_}
 use native.Mathlib.Omega.{arith}
 use Rattle.pdu_parts.specs.Lists.{entryC}
-use Rattle.pdu_parts.specs.Inner.{Filled}
-use Rattle.pdu_parts.proofs.ListsLaws.{filled-none, filled-more}
+use Rattle.pdu_parts.specs.ListsInner.{Filled}
+use Rattle.pdu_parts.proofs.ListLaws.{filled-none, filled-more}
 use Rattle.pdu_parts.proofs.lists.read_items.Statement.{statement}
 use Rattle.pdu_parts.proofs.lists.read_items.Tie as tie
 

@@ -1,6 +1,6 @@
 use native.Mathlib.Omega.{arith}
 use Rattle.per.proofs.Compose.{count-most}
-use Rattle.pdu_parts.proofs.ListsLaws.{few, listed-reads}
+use Rattle.pdu_parts.proofs.ListLaws.{few, listed-reads}
 use borrow.Author.Needs.{needs}
 use Rattle.pdu_parts.proofs.lists.read_list.Statement.{statement}
 use Rattle.pdu_parts.proofs.lists.read_list.Tie as tie

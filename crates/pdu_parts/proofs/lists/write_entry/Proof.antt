@@ -1,4 +1,4 @@
-use Rattle.pdu_parts.proofs.ListsLaws.{entry-marked-inks, entry-plain-inks}
+use Rattle.pdu_parts.proofs.ListLaws.{entry-marked-inks, entry-plain-inks}
 use borrow.Author.Needs.{needs}
 use Rattle.pdu_parts.proofs.lists.write_entry.Statement.{statement}
 use Rattle.pdu_parts.proofs.lists.write_entry.Tie as tie

@@ -6,7 +6,7 @@ use borrow.Author.Needs.{needs}
 use Rattle.per.specs.Formats.{vec}
 use Rattle.per.specs.Writing.{Writes}
 use Rattle.pdu_parts.specs.Lists.{entryC}
-use Rattle.pdu_parts.proofs.ListsLaws.{items-more}
+use Rattle.pdu_parts.proofs.ListLaws.{items-more}
 use Rattle.per.proofs.Inks.{inks-nil}
 use Rattle.pdu_parts.proofs.lists.write_items.Statement.{statement}
 use Rattle.pdu_parts.proofs.lists.write_items.Tie as tie

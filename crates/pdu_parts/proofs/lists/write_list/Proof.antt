@@ -1,5 +1,5 @@
 use native.Mathlib.Omega.{arith}
-use Rattle.pdu_parts.proofs.ListsLaws.{few, listed-barred, listed-inks}
+use Rattle.pdu_parts.proofs.ListLaws.{few, listed-barred, listed-inks}
 use borrow.Author.Needs.{needs}
 use Rattle.pdu_parts.proofs.lists.write_list.Statement.{statement}
 use Rattle.pdu_parts.proofs.lists.write_list.Tie as tie

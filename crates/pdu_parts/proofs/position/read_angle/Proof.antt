@@ -1,5 +1,5 @@
 use Rattle.per.proofs.Compose.{then, like}
-use Rattle.pdu_parts.specs.Table.{angleC}
+use Rattle.pdu_parts.specs.Reports.{angleC}
 use borrow.Author.Needs.{needs}
 use Rattle.pdu_parts.proofs.position.read_angle.Statement.{statement}
 use Rattle.pdu_parts.proofs.position.read_angle.Tie as tie

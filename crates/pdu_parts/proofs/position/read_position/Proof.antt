@@ -1,5 +1,5 @@
 use Rattle.per.proofs.Compose.{then, like}
-use Rattle.pdu_parts.specs.Table.{positionC}
+use Rattle.pdu_parts.specs.Reports.{positionC}
 use borrow.Author.Needs.{needs}
 use Rattle.pdu_parts.proofs.position.read_position.Statement.{statement}
 use Rattle.pdu_parts.proofs.position.read_position.Tie as tie

@@ -1,7 +1,7 @@
 use mathlib.Core.Path.{refl}
 use Rattle.per.specs.Formats.{field}
 use Rattle.per.proofs.Inks.{inks-by, inks-like}
-use Rattle.pdu_parts.specs.Table.{angleC}
+use Rattle.pdu_parts.specs.Reports.{angleC}
 use borrow.Author.Needs.{needs}
 use Rattle.pdu_parts.proofs.position.write_angle.Statement.{statement}
 use Rattle.pdu_parts.proofs.position.write_angle.Tie as tie

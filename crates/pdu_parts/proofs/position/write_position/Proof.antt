@@ -1,6 +1,6 @@
 use mathlib.Core.Path.{refl}
 use Rattle.per.proofs.Inks.{inks-by, inks-like}
-use Rattle.pdu_parts.specs.Table.{positionC}
+use Rattle.pdu_parts.specs.Reports.{positionC}
 use borrow.Author.Needs.{needs}
 use Rattle.pdu_parts.proofs.position.write_position.Statement.{statement}
 use Rattle.pdu_parts.proofs.position.write_position.Tie as tie

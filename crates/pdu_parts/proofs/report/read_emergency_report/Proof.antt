@@ -1,5 +1,5 @@
 use Rattle.per.proofs.Compose.{then, by, like}
-use Rattle.pdu_parts.specs.Table.{emergencyReportC}
+use Rattle.pdu_parts.specs.Reports.{emergencyReportC}
 use borrow.Author.Needs.{needs}
 use Rattle.pdu_parts.proofs.report.read_emergency_report.Statement.{statement}
 use Rattle.pdu_parts.proofs.report.read_emergency_report.Tie as tie

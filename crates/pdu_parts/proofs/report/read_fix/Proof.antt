@@ -1,5 +1,5 @@
 use Rattle.per.proofs.Compose.{then, like}
-use Rattle.pdu_parts.specs.Table.{fixC}
+use Rattle.pdu_parts.specs.Reports.{fixC}
 use borrow.Author.Needs.{needs}
 use Rattle.pdu_parts.proofs.report.read_fix.Statement.{statement}
 use Rattle.pdu_parts.proofs.report.read_fix.Tie as tie

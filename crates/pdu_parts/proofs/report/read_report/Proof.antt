@@ -1,5 +1,5 @@
 use Rattle.per.proofs.Compose.{then, by, like, after-ext}
-use Rattle.pdu_parts.specs.Table.{reportC}
+use Rattle.pdu_parts.specs.Reports.{reportC}
 use borrow.Author.Needs.{needs}
 use Rattle.pdu_parts.proofs.report.read_report.Statement.{statement}
 use Rattle.pdu_parts.proofs.report.read_report.Tie as tie

@@ -1,7 +1,7 @@
 use mathlib.Core.Path.{refl}
 use Rattle.per.specs.Formats.{field, only}
 use Rattle.per.proofs.Inks.{inks-by, inks-like}
-use Rattle.pdu_parts.specs.Table.{emergencyReportC}
+use Rattle.pdu_parts.specs.Reports.{emergencyReportC}
 use borrow.Author.Needs.{needs}
 use Rattle.pdu_parts.proofs.report.write_emergency_report.Statement.{statement}
 use Rattle.pdu_parts.proofs.report.write_emergency_report.Tie as tie

@@ -1,6 +1,6 @@
 use mathlib.Core.Path.{refl}
 use Rattle.per.proofs.Inks.{inks-by, inks-like}
-use Rattle.pdu_parts.specs.Table.{fixC}
+use Rattle.pdu_parts.specs.Reports.{fixC}
 use borrow.Author.Needs.{needs}
 use Rattle.pdu_parts.proofs.report.write_fix.Statement.{statement}
 use Rattle.pdu_parts.proofs.report.write_fix.Tie as tie

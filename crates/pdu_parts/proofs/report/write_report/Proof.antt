@@ -1,7 +1,7 @@
 use mathlib.Core.Path.{refl}
 use Rattle.per.specs.Formats.{field, only}
 use Rattle.per.proofs.Inks.{inks-by, inks-like, inks-ext}
-use Rattle.pdu_parts.specs.Table.{reportC}
+use Rattle.pdu_parts.specs.Reports.{reportC}
 use borrow.Author.Needs.{needs}
 use Rattle.pdu_parts.proofs.report.write_report.Statement.{statement}
 use Rattle.pdu_parts.proofs.report.write_report.Tie as tie

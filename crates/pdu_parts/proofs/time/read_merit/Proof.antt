@@ -1,5 +1,5 @@
 use Rattle.per.proofs.Compose.{then, like}
-use Rattle.pdu_parts.specs.Table.{meritC}
+use Rattle.pdu_parts.specs.Reports.{meritC}
 use borrow.Author.Needs.{needs}
 use Rattle.pdu_parts.proofs.time.read_merit.Statement.{statement}
 use Rattle.pdu_parts.proofs.time.read_merit.Tie as tie

@@ -1,5 +1,5 @@
 use Rattle.per.proofs.Compose.{then, by, like}
-use Rattle.pdu_parts.specs.Table.{timeC}
+use Rattle.pdu_parts.specs.Reports.{timeC}
 use borrow.Author.Needs.{needs}
 use Rattle.pdu_parts.proofs.time.read_time.Statement.{statement}
 use Rattle.pdu_parts.proofs.time.read_time.Tie as tie

@@ -1,6 +1,6 @@
 use mathlib.Core.Path.{refl}
 use Rattle.per.proofs.Inks.{inks-by, inks-like}
-use Rattle.pdu_parts.specs.Table.{meritC}
+use Rattle.pdu_parts.specs.Reports.{meritC}
 use borrow.Author.Needs.{needs}
 use Rattle.pdu_parts.proofs.time.write_merit.Statement.{statement}
 use Rattle.pdu_parts.proofs.time.write_merit.Tie as tie

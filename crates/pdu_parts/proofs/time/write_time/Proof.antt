@@ -1,7 +1,7 @@
 use mathlib.Core.Path.{refl}
 use Rattle.per.specs.Formats.{field}
 use Rattle.per.proofs.Inks.{inks-by, inks-like}
-use Rattle.pdu_parts.specs.Table.{timeC}
+use Rattle.pdu_parts.specs.Reports.{timeC}
 use borrow.Author.Needs.{needs}
 use Rattle.pdu_parts.proofs.time.write_time.Statement.{statement}
 use Rattle.pdu_parts.proofs.time.write_time.Tie as tie

@@ -1,5 +1,5 @@
 use native.Mathlib.Omega.{arith}
-use Rattle.per.proofs.PenSigns.{wide-fits, sum-fits, most-fits, raise-low, raise-high, raise-cast, raise-good}
+use Rattle.per.proofs.SignedWrite.{wide-fits, sum-fits, most-fits, raise-low, raise-high, raise-cast, raise-good}
 use borrow.Author.Needs.{needs}
 use Rattle.per.proofs.pen.raise.Statement.{statement}
 use Rattle.per.proofs.pen.raise.Tie as tie

@@ -1,5 +1,5 @@
 use borrow.Author.Tests.{eq-eqb, ne-eqb}
-use Rattle.per.specs.Inner.{settled}
+use Rattle.per.specs.ReadingInner.{settled}
 use Rattle.per.proofs.cursor.Cursor.settle.Statement.{statement}
 use Rattle.per.proofs.cursor.Cursor.settle.Tie as tie
 

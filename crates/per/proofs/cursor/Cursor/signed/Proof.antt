@@ -2,7 +2,7 @@ use native.Mathlib.Omega.{arith}
 use Rattle.per.specs.Formats.{signedField}
 use Rattle.per.specs.laws.Codec.{unless-le, unless-gt}
 use Rattle.per.proofs.Leaf.{judged-kept, judged-bad, judged-good}
-use Rattle.per.proofs.Signs.{less-fits, less-is}
+use Rattle.per.proofs.SignedRead.{less-fits, less-is}
 use borrow.Author.Needs.{needs}
 use Rattle.per.proofs.cursor.Cursor.signed.Statement.{statement}
 use Rattle.per.proofs.cursor.Cursor.signed.Tie as tie

@@ -1,0 +1,57 @@
+-- An answer as text (01, "Bench examples"): "timers after `start` and `stop`; HEX after `start-req`, `data-req`, `end-req`, `abort-req` if a PDU goes, and after
+-- `ind` (octets received; confirms too); `ind abort n`, `ind peer-abort`, `late`."
+use mathlib.Core.List.{List, [], _∷_, _++_}
+use Prim.Native.Nat.{ℕ, _-_}
+use lib.Dec.{eqb, leb, ltb}
+use lib.ListN.{take}
+use Rattle.text.specs.Letters.{ascii}
+use Rattle.text.specs.Text.{pick, hexText, decimal}
+use Rattle.ground_answer.specs.Answers.{START-REQUEST, DATA-REQUEST, END-REQUEST, ABORT-REQUEST, ABORT-IND, PEER-ABORT-IND, LATE}
+use Rattle.ground_answer.specs.declared.answer.Said.{Said}
+
+-- a space and HEX, or nothing where there are no octets
+unfoldable pub spaced : List ℕ → List ℕ
+spaced [] = []
+spaced (o ∷ os) = 32 ∷ hexText (o ∷ os)
+
+-- the timers' names, in watch order
+unfoldable pub timerText : ℕ → List ℕ
+timerText t =
+    pick (eqb t 0) (ascii "DC1")
+    (pick (eqb t 1) (ascii "DC2")
+    (pick (eqb t 2) (ascii "EC1")
+    (pick (eqb t 3) (ascii "EC2")
+    (pick (eqb t 4) (ascii "PC1")
+    (pick (eqb t 5) (ascii "PC2")
+    (pick (eqb t 6) (ascii "PC3") (pick (eqb t 7) (ascii "EM1") (pick (eqb t 8) (ascii "EM2") []))))))))
+
+unfoldable pub timerEntry : ℕ → List ℕ
+timerEntry c = pick (ltb c 16) [] (pick (ltb c 32) (ascii " stop " ++ timerText (c - 16)) (ascii " start " ++ timerText (c - 32)))
+
+-- one entry: the octets that go, the reason that is shown, the octets that came
+unfoldable pub entryText : ℕ → List ℕ → ℕ → List ℕ → List ℕ
+entryText c sent reason came =
+    pick (eqb c START-REQUEST) (ascii " start-req" ++ spaced sent)
+    (pick (eqb c DATA-REQUEST) (ascii " data-req" ++ spaced sent)
+    (pick (eqb c END-REQUEST) (ascii " end-req" ++ spaced sent)
+    (pick (eqb c ABORT-REQUEST) (ascii " abort-req" ++ spaced sent)
+    (pick (eqb c 5) (ascii " ind" ++ spaced came)
+    (pick (eqb c ABORT-IND) (ascii " ind abort " ++ decimal reason)
+    (pick (eqb c PEER-ABORT-IND) (ascii " ind peer-abort") (pick (eqb c LATE) (ascii " late") (timerEntry c))))))))
+
+-- the octets go with the first request, so none are left after it
+unfoldable pub restOf : ℕ → ℕ → ℕ
+restOf c n = pick (leb c ABORT-REQUEST) 0 n
+
+abbrev pub entriesOf : List ℕ → List ℕ → ℕ → ℕ → List ℕ → List ℕ
+entriesOf [] octets n reason came = []
+entriesOf (c ∷ cs) octets n reason came = entryText c (take n octets) reason came ++ entriesOf cs octets (restOf c n) reason came
+
+unfoldable pub refusedText : ℕ → List ℕ
+refusedText n = ascii "refused " ++ decimal n
+
+unfoldable pub answerText : Said → List ℕ → List ℕ
+answerText said came =
+    pick (eqb (said .refusal) 0)
+    (ascii "ok" ++ entriesOf (take (said .acts .n) (said .acts .list)) (said .sent .octets) (said .sent .n) (said .reason) came)
+    (refusedText (said .refusal))

@@ -1,0 +1,91 @@
+-- An aircraft PDU as 25 numbers, its list's octets beside them: 0 its kind, the index of 01's table; 1 whether a positive ack goes with a report, the request
+-- type, the index of a noncompliance or the reason of an abort; 2 the event type or the reason of a negative ack; 3 how many entries the list has;
+-- 4 to 24 a report, as flatfix has it. What a kind has not is 0.
+use mathlib.Core.Bool.{cond}
+use mathlib.Core.List.{List, [], _∷_}
+use Prim.Native.Nat.{ℕ, zero, suc}
+use lib.Dec.{eqb}
+use lib.ListN.{getD}
+use Rattle.pdu_parts.specs.Lists.{noList}
+use Rattle.pdu_parts.specs.declared.lists.Listed.{Listed}
+use Rattle.pdu_parts.specs.declared.acks.NegativeAck.{NegativeAck}
+use Rattle.pdu_parts.specs.declared.acked.AckedReport.{AckedReport}
+use Rattle.pdu_parts.specs.declared.acked.AckedEmergency.{AckedEmergency}
+use Rattle.pdu_parts.specs.declared.acked.EventReport.{EventReport}
+use Rattle.pdu.specs.declared.downlink.Air.{Air}
+use Rattle.pdu.specs.declared.downlink.Air.the-variants.{CancelEmergency, Demand, Emergency, Event, Negative, Noncompliance, Periodic, Positive, Abort}
+use Rattle.pdu.specs.declared.downlink.AirPdu.{AirPdu}
+use Rattle.host_numbers.specs.Numbers.{truth, numberBy, itemsOf}
+use Rattle.host_numbers.specs.ReportNumbers.{flatFix, fixAt, reportAt}
+
+-- a PDU without a report: its kind, the numbers at 1 and 2, and how many entries its list has
+abbrev pub few : ℕ → ℕ → ℕ → ℕ → List ℕ
+few kind a b count = kind ∷ a ∷ b ∷ count ∷ 0 ∷ 0 ∷ 0 ∷ 0 ∷ 0 ∷ 0 ∷ 0 ∷ 0 ∷ 0 ∷ 0 ∷ 0 ∷ 0 ∷ 0 ∷ 0 ∷ 0 ∷ 0 ∷ 0 ∷ 0 ∷ 0 ∷ 0 ∷ 0 ∷ []
+
+-- demand and periodic reports: "a presence bit for the positive ack (NULL), then the report"
+abbrev pub flatAcked : ℕ → AckedReport → List ℕ
+flatAcked kind a = flatFix kind (a .ack) 0 (a .report .elements) (a .report .fix) (a .report .address)
+
+-- emergencies, the same
+abbrev pub flatUrgent : AckedEmergency → List ℕ
+flatUrgent a = flatFix 2 (a .ack) 0 (a .report .elements) (a .report .fix) (a .report .address)
+
+-- "Index 3: that presence bit, event type* 0..11, report"
+abbrev pub flatEvent : EventReport → List ℕ
+flatEvent a = flatFix 3 (a .ack) (a .event) (a .report .elements) (a .report .fix) (a .report .address)
+
+-- by the kinds of 01's table; `count` is that of the list
+unfoldable pub flatAir : Air → ℕ → List ℕ
+flatAir CancelEmergency count = few 0 0 0 0
+flatAir (Demand a) count = flatAcked 1 a
+flatAir (Emergency a) count = flatUrgent a
+flatAir (Event a) count = flatEvent a
+flatAir (Negative a) count = few 4 (a .request) (a .reason) count
+flatAir (Noncompliance n) count = few 5 n 0 count
+flatAir (Periodic a) count = flatAcked 6 a
+flatAir (Positive n) count = few 7 n 0 0
+flatAir (Abort n) count = few 8 n 0 0
+
+-- and back. Numbers that are not there are 0. Before the report stands whether a positive ack goes with it
+unfoldable pub ackedAt : List ℕ → AckedReport
+ackedAt f = record { ack = truth (getD f 1 0); report = reportAt f }
+
+-- the same of an emergency
+unfoldable pub urgentAt : List ℕ → AckedEmergency
+urgentAt f =
+    record { ack = truth (getD f 1 0); report = record { elements = numberBy f 1 4; fix = fixAt f; address = getD f 24 0 } }
+
+-- and of an event report, with the event type
+unfoldable pub eventAt : List ℕ → EventReport
+eventAt f = record { ack = truth (getD f 1 0); event = getD f 2 0; report = reportAt f }
+
+-- request type and reason
+abbrev pub negativeAt : List ℕ → NegativeAck
+negativeAt f = record { request = getD f 1 0; reason = getD f 2 0 }
+
+-- by the index of 01's table. A kind over 8 gives an abort of reason 8, which the writer refuses with 5
+abbrev pub kindBy : ℕ → List ℕ → Air
+kindBy zero f = CancelEmergency
+kindBy (suc zero) f = Demand (ackedAt f)
+kindBy (suc (suc zero)) f = Emergency (urgentAt f)
+kindBy (suc (suc (suc zero))) f = Event (eventAt f)
+kindBy (suc (suc (suc (suc zero)))) f = Negative (negativeAt f)
+kindBy (suc (suc (suc (suc (suc zero))))) f = Noncompliance (getD f 1 0)
+kindBy (suc (suc (suc (suc (suc (suc zero)))))) f = Periodic (ackedAt f)
+kindBy (suc (suc (suc (suc (suc (suc (suc zero))))))) f = Positive (getD f 1 0)
+kindBy (suc (suc (suc (suc (suc (suc (suc (suc zero)))))))) f = Abort (getD f 1 0)
+kindBy (suc (suc (suc (suc (suc (suc (suc (suc (suc k))))))))) f = Abort 8
+
+unfoldable pub kindAt : List ℕ → Air
+kindAt f = kindBy (getD f 0 0) f
+
+-- the list, for the two kinds that carry one
+abbrev pub listedAt : List ℕ → List ℕ → Listed
+listedAt f l = record { count = getD f 3 0; items = itemsOf l }
+
+unfoldable pub listAt : List ℕ → List ℕ → Listed
+listAt f l = cond (eqb (getD f 0 0) 4) (listedAt f l) (cond (eqb (getD f 0 0) 5) (listedAt f l) noList)
+
+-- the whole PDU
+unfoldable pub airAt : List ℕ → List ℕ → AirPdu
+airAt f l = record { kind = kindAt f; list = listAt f l }

@@ -1,0 +1,70 @@
+-- A ground PDU as nine numbers: 0 its kind, the index of 01's table; 1 what goes with it (the contract to cancel, presence bits, the reason of an abort);
+-- 2 an interval's scale, 0 seconds or 1 minutes, and 3 its number; 4 to 8 the moduli of a periodic contract. What a kind has not is 0.
+use mathlib.Core.List.{List, [], _∷_}
+use Prim.Native.Nat.{ℕ, zero, suc}
+use lib.ListN.{getD}
+use Rattle.pdu_parts.specs.declared.interval.Interval.{Interval}
+use Rattle.pdu_parts.specs.declared.interval.Interval.the-variants.{Seconds, Minutes}
+use Rattle.pdu_parts.specs.declared.periodic.Periodic.{Periodic}
+use Rattle.pdu.specs.declared.uplink.Ground.{Ground}
+use Rattle.pdu.specs.declared.uplink.Ground.the-variants.{CancelAll, CancelContract, CancelEmergencyAck, DemandContract, EventContract, ModifyEmergency, PeriodicContract, Abort}
+
+abbrev pub scaleOf : Interval → ℕ
+scaleOf (Seconds n) = 0
+scaleOf (Minutes n) = 1
+
+abbrev pub timesOf : Interval → ℕ
+timesOf (Seconds n) = n
+timesOf (Minutes n) = n
+
+abbrev pub pairOf : ℕ → ℕ → List ℕ
+pairOf kind n = kind ∷ n ∷ 0 ∷ 0 ∷ 0 ∷ 0 ∷ 0 ∷ 0 ∷ 0 ∷ []
+
+abbrev pub flatModify : Interval → List ℕ
+flatModify i = 5 ∷ 0 ∷ scaleOf i ∷ timesOf i ∷ 0 ∷ 0 ∷ 0 ∷ 0 ∷ 0 ∷ []
+
+abbrev pub flatPeriodic : Periodic → List ℕ
+flatPeriodic a =
+    6 ∷ a .elements ∷ scaleOf (a .interval) ∷ timesOf (a .interval) ∷ a .address ∷ a .profile ∷ a .ground ∷ a .air ∷ a .weather ∷ []
+
+unfoldable pub flatGround : Ground → List ℕ
+flatGround CancelAll = pairOf 0 0
+flatGround (CancelContract n) = pairOf 1 n
+flatGround CancelEmergencyAck = pairOf 2 0
+flatGround (DemandContract v) = pairOf 3 v
+flatGround (EventContract v) = pairOf 4 v
+flatGround (ModifyEmergency i) = flatModify i
+flatGround (PeriodicContract a) = flatPeriodic a
+flatGround (Abort n) = pairOf 7 n
+
+-- and back. Numbers that are not there are 0. A scale over 1 gives 0 seconds, a kind over 7 an abort of reason 8: the writer refuses both with 5
+abbrev pub intervalOf : ℕ → ℕ → Interval
+intervalOf zero n = Seconds n
+intervalOf (suc zero) n = Minutes n
+intervalOf (suc (suc k)) n = Seconds 0
+
+abbrev pub periodicAt : List ℕ → Periodic
+periodicAt f =
+    record {
+      interval = intervalOf (getD f 2 0) (getD f 3 0);
+      elements = getD f 1 0;
+      address = getD f 4 0;
+      profile = getD f 5 0;
+      ground = getD f 6 0;
+      air = getD f 7 0;
+      weather = getD f 8 0;
+    }
+
+abbrev pub groundBy : ℕ → List ℕ → Ground
+groundBy zero f = CancelAll
+groundBy (suc zero) f = CancelContract (getD f 1 0)
+groundBy (suc (suc zero)) f = CancelEmergencyAck
+groundBy (suc (suc (suc zero))) f = DemandContract (getD f 1 0)
+groundBy (suc (suc (suc (suc zero)))) f = EventContract (getD f 1 0)
+groundBy (suc (suc (suc (suc (suc zero))))) f = ModifyEmergency (intervalOf (getD f 2 0) (getD f 3 0))
+groundBy (suc (suc (suc (suc (suc (suc zero)))))) f = PeriodicContract (periodicAt f)
+groundBy (suc (suc (suc (suc (suc (suc (suc zero))))))) f = Abort (getD f 1 0)
+groundBy (suc (suc (suc (suc (suc (suc (suc (suc k)))))))) f = Abort 8
+
+unfoldable pub groundAt : List ℕ → Ground
+groundAt f = groundBy (getD f 0 0) f

@@ -1,0 +1,77 @@
+-- The bench examples of 01, P1 to P13, as one table: the family, the octets, and what they read as.
+use Prim.Native.Nat.{ℕ}
+use mathlib.Core.Bool.{false}
+use mathlib.Core.List.{List, [], _∷_}
+use lib.IntN.{pos}
+use Rattle.per.specs.Pdu.{Answer, got, refused, encode, readPdu}
+use Rattle.pdu_parts.specs.declared.position.Angle.{Angle}
+use Rattle.pdu_parts.specs.declared.report.Report.{Report}
+use Rattle.pdu_parts.specs.declared.interval.Interval.the-variants.{Minutes}
+use Rattle.pdu_parts.specs.declared.periodic.Periodic.{Periodic}
+use Rattle.pdu.specs.declared.uplink.Ground.{Ground}
+use Rattle.pdu.specs.declared.uplink.Ground.the-variants.{CancelContract, DemandContract, EventContract, ModifyEmergency, PeriodicContract}
+use Rattle.pdu.specs.declared.uplink.Ground as ground
+use Rattle.pdu.specs.UplinkTable.{groundC}
+use Rattle.pdu.specs.declared.downlink.Air.the-variants.{CancelEmergency, Demand, Negative, Positive}
+use Rattle.pdu.specs.declared.downlink.Air as air
+use Rattle.pdu.specs.declared.downlink.AirPdu.{AirPdu}
+use Rattle.pdu.specs.DownlinkTable.{airC, bareAir}
+
+pub data Example : Type 0 where
+  down : List ℕ → Answer AirPdu → Example
+  up : List ℕ → Answer Ground → Example
+
+abbrev pub zeroAngle : Angle
+zeroAngle = record { minus = false; degrees = 0; minutes = 0; tenths = 0 }
+
+-- "all zero, level 0, 1996-01-01 00:00, no seconds"
+abbrev pub plainReport : Report
+plainReport = record {
+  elements = 0;
+  fix = record {
+    position = record { latitude = zeroAngle; longitude = zeroAngle; level = record { number = pos 0 } };
+    time = record { year = 1996; month = 1; day = 1; «has_seconds» = false; hours = 0; minutes = 0; seconds = 0 };
+    merit = record { accuracy = 0; units = false; avoidance = false };
+  };
+  address = 0;
+}
+
+abbrev pub oneMinute : Periodic
+oneMinute = record { interval = Minutes 1; elements = 0; address = 0; profile = 0; ground = 0; air = 0; weather = 0 }
+
+-- P1 cancel-emergency; P2 ground abort 4; P3 air abort 4; P4 cancel-contract periodic; P5 positive ack periodic; P6 negative ack demand, reason 3;
+-- P7 modify to 5 minutes; P8 empty demand contract; P9 waypoint event contract; P10 periodic, 1 minute; P11 refusal 11; P12 empty input: 7, in
+-- both families; P13 plain demand report
+abbrev pub examples : List Example
+examples =
+    down (0 ∷ []) (got (bareAir CancelEmergency))
+    ∷ up (116 ∷ []) (got (ground.the-variants.Abort 4))
+    ∷ down (66 ∷ 0 ∷ []) (got (bareAir (air.the-variants.Abort 4)))
+    ∷ up (20 ∷ []) (got (CancelContract 1))
+    ∷ down (56 ∷ 128 ∷ []) (got (bareAir (Positive 1)))
+    ∷ down (33 ∷ 48 ∷ []) (got (bareAir (Negative (record { request = 2; reason = 3 }))))
+    ∷ up (88 ∷ 64 ∷ []) (got (ModifyEmergency (Minutes 5)))
+    ∷ up (48 ∷ 0 ∷ []) (got (DemandContract 0))
+    ∷ up (64 ∷ 128 ∷ []) (got (EventContract 128))
+    ∷ up (100 ∷ 4 ∷ 0 ∷ []) (got (PeriodicContract oneMinute))
+    ∷ up (100 ∷ 4 ∷ 32 ∷ []) (refused 11)
+    ∷ up [] (refused 7)
+    ∷ down [] (refused 7)
+    ∷ down (8 ∷ 0 ∷ 0 ∷ 0 ∷ 0 ∷ 0 ∷ 0 ∷ 0 ∷ 1 ∷ 44 ∷ 0 ∷ 0 ∷ 0 ∷ 0 ∷ []) (got (bareAir (Demand (record { ack = false; report = plainReport }))))
+    ∷ []
+
+-- each example as the codecs read its octets
+unfoldable pub reread : Example → Example
+reread (down s a) = down s (readPdu airC s)
+reread (up s a) = up s (readPdu groundC s)
+
+-- each example as the codecs write its value
+unfoldable pub rewritten : Example → Example
+rewritten (down s (got a)) = down (encode airC a) (got a)
+rewritten (down s (refused n)) = down s (refused n)
+rewritten (up s (got g)) = up (encode groundC g) (got g)
+rewritten (up s (refused n)) = up s (refused n)
+
+unfoldable pub all : (Example → Example) → List Example → List Example
+all f [] = []
+all f (e ∷ l) = f e ∷ all f l
