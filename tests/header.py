@@ -18,6 +18,12 @@ LENT = re.compile(r"&(mut )?(\w+)")
 
 # A number of the header and the constant that it is.
 CONSTANTS = {
+    "refusals/src/lib.rt": {f"ADSC_{name}": name for name in (
+        "NOT_PERMITTED", "CANNOT_OCCUR", "BAD_SETTING", "ELAPSE_OVER", "OUT_OF_RANGE", "NO_ROOM", "CUT_SHORT", "ABOVE_RANGE", "EXTENSION_SET", "NOT_CARRIED",
+        "DEFAULT_SENT", "LIST_OVER", "FILLING", "OCTETS_AFTER", "NO_ELEMENT", "INPUT_OVER", "SCRIPT_LINE", "BAD_RECORD")},
+    "pdu_parts/src/elements.rt": {
+        **{f"ADSC_HAS_{name}": name for name in ("ADDRESS", "PROFILE", "GROUND_VECTOR", "AIR_VECTOR", "WEATHER")},
+        "ADSC_URGENT_HAS_ADDRESS": "EMERGENCY_ADDRESS", "ADSC_ON_WAYPOINT_CHANGE": "WAYPOINT_CHANGE", "ADSC_ON_MERIT_CHANGE": "MERIT_CHANGE"},
     "host_record/src/record.rt": {"ADSC_LINK_OCTETS": "RECORD"},
     "host_record/src/answer.rt": {"ADSC_ANSWER_OCTETS": "ANSWER"},
     "ground_answer/src/answer.rt": {

@@ -16,6 +16,7 @@ use Rattle.pdu.specs.declared.downlink.Air.the-variants.{CancelEmergency
 use Rattle.pdu.specs.declared.downlink.Air as air
 use Rattle.pdu.specs.declared.downlink.AirPdu.{AirPdu}
 use Rattle.pdu.specs.DownlinkTable.{airC, bareAir}
+use Rattle.refusals.specs.Refusals.{DEFAULT-SENT, CUT-SHORT}
 
 pub data Example : Type 0 where
   down : List ℕ → Answer AirPdu → Example
@@ -54,9 +55,9 @@ examples =
     ∷ up (48 ∷ 0 ∷ []) (got (DemandContract 0))
     ∷ up (64 ∷ 128 ∷ []) (got (EventContract 128))
     ∷ up (100 ∷ 4 ∷ 0 ∷ []) (got (PeriodicContract oneMinute))
-    ∷ up (100 ∷ 4 ∷ 32 ∷ []) (refused 11)
-    ∷ up [] (refused 7)
-    ∷ down [] (refused 7)
+    ∷ up (100 ∷ 4 ∷ 32 ∷ []) (refused DEFAULT-SENT)
+    ∷ up [] (refused CUT-SHORT)
+    ∷ down [] (refused CUT-SHORT)
     ∷ down (8 ∷ 0 ∷ 0 ∷ 0 ∷ 0 ∷ 0 ∷ 0 ∷ 0 ∷ 1 ∷ 44 ∷ 0 ∷ 0 ∷ 0 ∷ 0 ∷ []) (got (bareAir (Demand (record { ack = false; report = plainReport }))))
     ∷ []
 

@@ -10,6 +10,7 @@ use Rattle.pdu.specs.declared.uplink.Ground.{Ground}
 use Rattle.pdu.specs.declared.uplink.Ground.the-variants.{CancelAll, CancelContract, CancelEmergencyAck, DemandContract, EventContract, ModifyEmergency, PeriodicContract, Abort}
 use Rattle.pdu_parts.specs.Interval.{intervalC, fiveMinutes}
 use Rattle.pdu_parts.specs.Periodic.{periodicC}
+use Rattle.pdu_parts.specs.Elements.{REPORT-BITS, DEMAND-CARRIED, EVENT-BITS, EVENT-CARRIED}
 
 -- the index of a PDU, and what each kind holds
 abbrev pub groundTag : Ground → ℕ
@@ -63,8 +64,8 @@ unfoldable pub groundAlt : (i : ℕ) → Alt groundTag i
 groundAlt zero = alt groundTag 0 null (λ u. CancelAll) (λ g. record {}) (λ p. refl) (λ p. refl)
 groundAlt (suc zero) = alt groundTag 1 (ext (num 0 1)) CancelContract groundNumber (λ p. refl) (λ p. refl)
 groundAlt (suc (suc zero)) = alt groundTag 2 null (λ u. CancelEmergencyAck) (λ g. record {}) (λ p. refl) (λ p. refl)
-groundAlt (suc (suc (suc zero))) = alt groundTag 3 (ext (mask 127 124 false)) DemandContract groundNumber (λ p. refl) (λ p. refl)
-groundAlt (suc (suc (suc (suc zero)))) = alt groundTag 4 (ext (mask 2047 132 true)) EventContract groundNumber (λ p. refl) (λ p. refl)
+groundAlt (suc (suc (suc zero))) = alt groundTag 3 (ext (mask REPORT-BITS DEMAND-CARRIED false)) DemandContract groundNumber (λ p. refl) (λ p. refl)
+groundAlt (suc (suc (suc (suc zero)))) = alt groundTag 4 (ext (mask EVENT-BITS EVENT-CARRIED true)) EventContract groundNumber (λ p. refl) (λ p. refl)
 groundAlt (suc (suc (suc (suc (suc zero))))) = alt groundTag 5 intervalC ModifyEmergency groundInterval (λ p. refl) (λ p. refl)
 groundAlt (suc (suc (suc (suc (suc (suc zero)))))) = alt groundTag 6 (ext periodicC) PeriodicContract groundPeriod (λ p. refl) (λ p. refl)
 groundAlt (suc (suc (suc (suc (suc (suc (suc zero))))))) = alt groundTag 7 (ext (num 0 7)) Abort groundNumber (λ p. refl) (λ p. refl)

@@ -1,4 +1,5 @@
 // Ground PDUs: what the ground sends, their reader, their writer, and how many elements a contract asks for.
+use pdu_parts::elements::*;
 use pdu_parts::interval::Interval;
 use pdu_parts::interval::read_interval;
 use pdu_parts::interval::write_interval;
@@ -45,7 +46,7 @@ fn read_cancel(c: Cursor, s: &[u8]) -> GroundRead
 fn read_demand(c: Cursor, s: &[u8]) -> GroundRead
     ensures { λ r. ⌜ Reads (groundAlt 3 .codec) (now (s .entry)) c (r .value) (r .next) ⌝ }
 {
-    let x = c.extension(s).mask(s, 127, 124, false);
+    let x = c.extension(s).mask(s, REPORT_BITS, DEMAND_CARRIED, false);
     let next = x.next;
     GroundRead {
         value: Ground::DemandContract(x.value),
@@ -56,7 +57,7 @@ fn read_demand(c: Cursor, s: &[u8]) -> GroundRead
 fn read_event(c: Cursor, s: &[u8]) -> GroundRead
     ensures { λ r. ⌜ Reads (groundAlt 4 .codec) (now (s .entry)) c (r .value) (r .next) ⌝ }
 {
-    let x = c.extension(s).mask(s, 2047, 132, true);
+    let x = c.extension(s).mask(s, EVENT_BITS, EVENT_CARRIED, true);
     let next = x.next;
     GroundRead {
         value: Ground::EventContract(x.value),
@@ -131,8 +132,10 @@ fn write_fields(p: Pen, out: &mut [u8; 128], g: Ground) -> Pen
         Ground::CancelAll => p,
         Ground::CancelContract(n) => p.extension(out).num(out, n, 0, 1),
         Ground::CancelEmergencyAck => p,
-        Ground::DemandContract(v) => p.extension(out).mask(out, v, 127, 124, false),
-        Ground::EventContract(v) => p.extension(out).mask(out, v, 2047, 132, true),
+        Ground::DemandContract(v) => p.extension(out)
+            .mask(out, v, REPORT_BITS, DEMAND_CARRIED, false),
+        Ground::EventContract(v) => p.extension(out)
+            .mask(out, v, EVENT_BITS, EVENT_CARRIED, true),
         Ground::ModifyEmergency(i) => write_interval(p, out, i),
         Ground::PeriodicContract(a) => write_periodic(p.extension(out), out, a),
         Ground::Abort(n) => p.extension(out).num(out, n, 0, 7),

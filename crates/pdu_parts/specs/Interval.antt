@@ -7,6 +7,8 @@ use Rattle.per.specs.Codec.{Codec, unless}
 use Rattle.per.specs.Formats.{pair, only, when, num, mask, has, choice, Alt, alt, unused}
 use Rattle.pdu_parts.specs.declared.interval.Interval.{Interval}
 use Rattle.pdu_parts.specs.declared.interval.Interval.the-variants.{Seconds, Minutes}
+use Rattle.refusals.specs.Refusals.{DEFAULT-SENT}
+use Rattle.pdu_parts.specs.Elements.{ADDRESS, PROFILE, GROUND-VECTOR, AIR-VECTOR, WEATHER, INTERVAL, PERIODIC-BITS, PERIODIC-CARRIED}
 
 -- "Interval: 1 bit, then seconds 1..59 (0) or minutes 1..120 (1)"
 abbrev pub intervalTag : Interval → ℕ
@@ -35,7 +37,7 @@ isFive (Minutes n) = eqb n 5
 
 -- "An interval of 5 minutes is never sent, and is refused when sent"
 unfoldable pub sentC : Codec Interval
-sentC = only intervalC (λ i. unless (not (isFive i)) 11)
+sentC = only intervalC (λ i. unless (not (isFive i)) DEFAULT-SENT)
 
 -- "five moduli 1..255 in the report's order", each where its presence bit of weight w is set
 abbrev pub modulus : ℕ → ℕ → Codec ℕ
@@ -45,14 +47,14 @@ abbrev pub Moduli : Type 0
 Moduli = ℕ × (ℕ × (ℕ × (ℕ × ℕ)))
 
 abbrev pub moduliC : ℕ → Codec Moduli
-moduliC v = pair (modulus 64 v) (pair (modulus 32 v) (pair (modulus 16 v) (pair (modulus 8 v) (modulus 4 v))))
+moduliC v = pair (modulus ADDRESS v) (pair (modulus PROFILE v) (pair (modulus GROUND-VECTOR v) (pair (modulus AIR-VECTOR v) (modulus WEATHER v))))
 
 -- "8 presence bits (interval, ..; five moduli ..; two not carried)"
 abbrev pub periodicBits : Codec ℕ
-periodicBits = mask 255 252 false
+periodicBits = mask PERIODIC-BITS PERIODIC-CARRIED false
 
 abbrev pub periodicRest : ℕ → Codec (Interval × Moduli)
-periodicRest v = pair (when (has 128 v) fiveMinutes sentC) (moduliC v)
+periodicRest v = pair (when (has INTERVAL v) fiveMinutes sentC) (moduliC v)
 
 -- the presence bits that are sent: that of the interval is set unless it is the default
 unfoldable pub sentBits : Bool → ℕ → ℕ

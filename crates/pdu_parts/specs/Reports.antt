@@ -11,6 +11,7 @@ use Rattle.pdu_parts.specs.declared.time.Merit.{Merit}
 use Rattle.pdu_parts.specs.declared.report.Fix.{Fix}
 use Rattle.pdu_parts.specs.declared.report.Report.{Report}
 use Rattle.pdu_parts.specs.declared.report.EmergencyReport.{EmergencyReport}
+use Rattle.pdu_parts.specs.Elements.{ADDRESS, REPORT-BITS, REPORT-CARRIED, EMERGENCY-ADDRESS, EMERGENCY-BITS, EMERGENCY-CARRIED}
 
 -- "latitude (sign 1 bit, degrees 0..90, minutes 0..59, tenth-seconds 0..599), longitude (degrees 0..180, rest alike)"
 unfoldable pub angleC : ℕ → Codec Angle
@@ -69,7 +70,7 @@ address w v = when (has w v) 0 (num 0 16777215)
 -- position, time, figure of merit, then the address, 24 bits. The other six elements aren't carried"
 unfoldable pub reportC : Codec Report
 reportC =
-    iso (ext (dep (mask 127 64 false) (λ v. pair fixC (address 64 v))))
+    iso (ext (dep (mask REPORT-BITS REPORT-CARRIED false) (λ v. pair fixC (address ADDRESS v))))
     (λ p. record { elements = p .0; fix = p .1 .0; address = p .1 .1 })
     (λ a. (a .elements, (a .fix, a .address)))
     (λ p. refl)
@@ -77,7 +78,7 @@ reportC =
 -- "Emergency report: no extension bit, 2 presence bits (address, ground vector), the same three, address"
 unfoldable pub emergencyReportC : Codec EmergencyReport
 emergencyReportC =
-    iso (dep (mask 3 2 false) (λ v. pair fixC (address 2 v)))
+    iso (dep (mask EMERGENCY-BITS EMERGENCY-CARRIED false) (λ v. pair fixC (address EMERGENCY-ADDRESS v)))
     (λ p. record { elements = p .0; fix = p .1 .0; address = p .1 .1 })
     (λ a. (a .elements, (a .fix, a .address)))
     (λ p. refl)

@@ -1,6 +1,7 @@
 // A reporting interval.
 use per::cursor::Cursor;
 use per::pen::Pen;
+use refusals::DEFAULT_SENT;
 ghost use mathlib.Core.Path.{_≡_};
 ghost use mathlib.Core.Bool.{true, false};
 ghost use Rattle.per.specs.Formats.{when};
@@ -78,7 +79,7 @@ fn read_sent(c: Cursor, s: &[u8]) -> IntervalRead
     if five {
         let next = Cursor {
             at: c.at,
-            refusal: 11,
+            refusal: DEFAULT_SENT,
         };
         return IntervalRead {
             value: Interval::Seconds(0),

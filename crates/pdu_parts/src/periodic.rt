@@ -1,4 +1,5 @@
 // The periodic contract.
+use crate::elements::*;
 use crate::interval::Interval;
 use crate::interval::is_five;
 use crate::interval::read_sent_if;
@@ -6,6 +7,7 @@ use crate::interval::write_sent_if;
 use per::cursor::Cursor;
 use per::cursor::present;
 use per::pen::Pen;
+use refusals::OUT_OF_RANGE;
 ghost use mathlib.Core.Path.{_≡_};
 ghost use Prim.Native.Nat.{_≤_};
 ghost use Rattle.per.specs.Reading.{Reads};
@@ -33,18 +35,18 @@ pub struct PeriodicRead {
 pub fn read_periodic(c: Cursor, s: &[u8]) -> PeriodicRead
     ensures { λ r. ⌜ Reads periodicC (now (s .entry)) c (r .value) (r .next) ⌝ }
 {
-    let bits = c.mask(s, 255, 252, false);
+    let bits = c.mask(s, PERIODIC_BITS, PERIODIC_CARRIED, false);
     let v = bits.value;
-    let i = read_sent_if(bits.next, s, present(v, 128));
-    let address = i.next.num_if(s, present(v, 64), 1, 255);
-    let profile = address.next.num_if(s, present(v, 32), 1, 255);
-    let ground = profile.next.num_if(s, present(v, 16), 1, 255);
-    let air = ground.next.num_if(s, present(v, 8), 1, 255);
-    let weather = air.next.num_if(s, present(v, 4), 1, 255);
+    let i = read_sent_if(bits.next, s, present(v, INTERVAL));
+    let address = i.next.num_if(s, present(v, ADDRESS), 1, 255);
+    let profile = address.next.num_if(s, present(v, PROFILE), 1, 255);
+    let ground = profile.next.num_if(s, present(v, GROUND_VECTOR), 1, 255);
+    let air = ground.next.num_if(s, present(v, AIR_VECTOR), 1, 255);
+    let weather = air.next.num_if(s, present(v, WEATHER), 1, 255);
     let interval = i.value;
     let value = Periodic {
         interval,
-        elements: v % 128,
+        elements: v % INTERVAL,
         address: address.value,
         profile: profile.value,
         ground: ground.value,
@@ -60,7 +62,7 @@ fn bits_of(five: bool, elements: u32) -> u32
     requires { ⌜ elements ≤ 127 ⌝ }
     ensures { λ r. ⌜ r ≡ sentBits five elements ⌝ }
 {
-    if five { elements } else { 128 + elements }
+    if five { elements } else { INTERVAL + elements }
 }
 
 pub fn write_periodic(p: Pen, out: &mut [u8; 128], a: Periodic) -> Pen
@@ -68,17 +70,17 @@ pub fn write_periodic(p: Pen, out: &mut [u8; 128], a: Periodic) -> Pen
 {
     let interval = a.interval;
     let five = is_five(interval);
-    if 127 < a.elements {
-        return p.refuse(5);
+    if REPORT_BITS < a.elements {
+        return p.refuse(OUT_OF_RANGE);
     }
     let v = bits_of(five, a.elements);
-    let p = p.mask(out, v, 255, 252, false);
-    let p = write_sent_if(p, out, present(v, 128), interval);
-    let p = p.num_if(out, present(v, 64), a.address, 1, 255);
-    let p = p.num_if(out, present(v, 32), a.profile, 1, 255);
-    let p = p.num_if(out, present(v, 16), a.ground, 1, 255);
-    let p = p.num_if(out, present(v, 8), a.air, 1, 255);
-    p.num_if(out, present(v, 4), a.weather, 1, 255)
+    let p = p.mask(out, v, PERIODIC_BITS, PERIODIC_CARRIED, false);
+    let p = write_sent_if(p, out, present(v, INTERVAL), interval);
+    let p = p.num_if(out, present(v, ADDRESS), a.address, 1, 255);
+    let p = p.num_if(out, present(v, PROFILE), a.profile, 1, 255);
+    let p = p.num_if(out, present(v, GROUND_VECTOR), a.ground, 1, 255);
+    let p = p.num_if(out, present(v, AIR_VECTOR), a.air, 1, 255);
+    p.num_if(out, present(v, WEATHER), a.weather, 1, 255)
 }
 
 // How many elements it asks for, the interval where it is sent.

@@ -1,4 +1,5 @@
 // The report and the emergency report: which elements are present, the three that always are, and the aircraft address.
+use crate::elements::*;
 use crate::position::Position;
 use crate::position::read_position;
 use crate::position::write_position;
@@ -82,11 +83,11 @@ fn write_fix(p: Pen, out: &mut [u8; 128], a: Fix) -> Pen
 pub fn read_report(c: Cursor, s: &[u8]) -> ReportRead
     ensures { λ r. ⌜ Reads reportC (now (s .entry)) c (r .value) (r .next) ⌝ }
 {
-    let elements = c.extension(s).mask(s, 127, 64, false);
+    let elements = c.extension(s).mask(s, REPORT_BITS, REPORT_CARRIED, false);
     let three = read_fix(elements.next, s);
     let address = three
         .next
-        .num_if(s, present(elements.value, 64), 0, 16777215);
+        .num_if(s, present(elements.value, ADDRESS), 0, 16777215);
     let fix = three.value;
     let value = Report {
         elements: elements.value,
@@ -102,19 +103,19 @@ pub fn write_report(p: Pen, out: &mut [u8; 128], a: Report) -> Pen
 {
     let fix = a.fix;
     let p = p.extension(out);
-    let p = p.mask(out, a.elements, 127, 64, false);
+    let p = p.mask(out, a.elements, REPORT_BITS, REPORT_CARRIED, false);
     let p = write_fix(p, out, fix);
-    p.num_if(out, present(a.elements, 64), a.address, 0, 16777215)
+    p.num_if(out, present(a.elements, ADDRESS), a.address, 0, 16777215)
 }
 
 pub fn read_emergency_report(c: Cursor, s: &[u8]) -> EmergencyReportRead
     ensures { λ r. ⌜ Reads emergencyReportC (now (s .entry)) c (r .value) (r .next) ⌝ }
 {
-    let elements = c.mask(s, 3, 2, false);
+    let elements = c.mask(s, EMERGENCY_BITS, EMERGENCY_CARRIED, false);
     let three = read_fix(elements.next, s);
     let address = three
         .next
-        .num_if(s, present(elements.value, 2), 0, 16777215);
+        .num_if(s, present(elements.value, EMERGENCY_ADDRESS), 0, 16777215);
     let fix = three.value;
     let value = EmergencyReport {
         elements: elements.value,
@@ -129,7 +130,13 @@ pub fn write_emergency_report(p: Pen, out: &mut [u8; 128], a: EmergencyReport) -
     ensures { λ r. ⌜ Writes emergencyReportC (now (out .entry)) p a r (now (out .exit)) ⌝ }
 {
     let fix = a.fix;
-    let p = p.mask(out, a.elements, 3, 2, false);
+    let p = p.mask(out, a.elements, EMERGENCY_BITS, EMERGENCY_CARRIED, false);
     let p = write_fix(p, out, fix);
-    p.num_if(out, present(a.elements, 2), a.address, 0, 16777215)
+    p.num_if(
+        out,
+        present(a.elements, EMERGENCY_ADDRESS),
+        a.address,
+        0,
+        16777215,
+    )
 }

@@ -9,6 +9,7 @@ use lib.IntN.{ℤ, pos, negsuc}
 use Rattle.per.specs.declared.cursor.Cursor.{Cursor}
 use Rattle.per.specs.Bits.{toBits, numAt}
 use Rattle.per.specs.Codec.{Out, out, place, refuse, unless, upto}
+use Rattle.refusals.specs.Refusals.{CUT-SHORT, OUT-OF-RANGE}
 
 -- `judge` is the refusal of a number that was sent, `chk` that of a value to write; `to` and `from` turn the number into the value and back
 pub record Field (A : Type 0) : Type 0 where
@@ -32,7 +33,7 @@ readField f bs j =
     cond (eqb (j .refusal) 0)
     (cond (leb (f .width) (length bs - j .at))
     (settle (f .judge (numAt bs (j .at) (f .width))) (f .to (numAt bs (j .at) (f .width))) (f .none) (j .at) (j .at + f .width))
-    (out (f .none) (refuse (j .at) 7)))
+    (out (f .none) (refuse (j .at) CUT-SHORT)))
     (out (f .none) j)
 
 -- the field's bits, none where it is refused
@@ -45,5 +46,5 @@ raised k (pos n) = n + k
 raised k (negsuc n) = k - suc n
 
 abbrev pub raisedChk : ℕ → ℕ → ℤ → ℕ
-raisedChk k hi (pos n) = unless (leb n hi) 5
-raisedChk k hi (negsuc n) = unless (leb (suc n) k) 5
+raisedChk k hi (pos n) = unless (leb n hi) OUT-OF-RANGE
+raisedChk k hi (negsuc n) = unless (leb (suc n) k) OUT-OF-RANGE

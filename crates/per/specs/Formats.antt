@@ -22,6 +22,7 @@ use Rattle.per.specs.laws.Dep.{dep-stuck, dep-there, dep-room, dep-kept,
 use Rattle.per.specs.laws.Via.{via-stuck, via-there, via-kept, via-back, absent-moved, absent-there}
 use Rattle.per.specs.laws.Only.{only-stuck, only-there, only-room, only-kept, only-back}
 use Rattle.per.specs.laws.Kinds.{num-write, num-read, run-write, run-read, flag-read, flag-write, zero-bit, count-write, raised-write, raised-read}
+use Rattle.refusals.specs.Refusals.{ABOVE-RANGE, EXTENSION-SET, LIST-OVER, NO-ELEMENT, NOT-CARRIED, OUT-OF-RANGE}
 
 -- ---- putting together
 
@@ -133,10 +134,10 @@ when false z c = absent z
 abbrev pub numField : ℕ → ℕ → Field ℕ
 numField lo hi = record {
   width = width (hi - lo);
-  judge = λ v. unless (leb (lo + v) hi) 8;
+  judge = λ v. unless (leb (lo + v) hi) ABOVE-RANGE;
   to = λ v. lo + v;
   from = λ a. a - lo;
-  chk = λ a. first (unless (leb lo a) 5) (unless (leb a hi) 5);
+  chk = λ a. first (unless (leb lo a) OUT-OF-RANGE) (unless (leb a hi) OUT-OF-RANGE);
   none = 0;
   write = num-write lo hi;
   read = λ v l g. num-read lo hi v g;
@@ -150,10 +151,10 @@ num lo hi = field (numField lo hi)
 abbrev pub runField : ℕ → Field ℕ
 runField w = record {
   width = w;
-  judge = λ v. unless (leb w 32) 8;
+  judge = λ v. unless (leb w 32) ABOVE-RANGE;
   to = λ v. v;
   from = λ v. v;
-  chk = λ v. first (unless (leb w 32) 5) (unless (ltb v (2 ^ w)) 5);
+  chk = λ v. first (unless (leb w 32) OUT-OF-RANGE) (unless (ltb v (2 ^ w)) OUT-OF-RANGE);
   none = 0;
   write = λ v h. (run-write w v h .0, run-write w v h .1, refl);
   read = λ v l g. (run-read w v l g, refl);
@@ -184,7 +185,7 @@ flag = field flagField
 abbrev pub extensionField : Field Null
 extensionField = record {
   width = 1;
-  judge = λ v. unless (eqb v 0) 9;
+  judge = λ v. unless (eqb v 0) EXTENSION-SET;
   to = λ v. record {};
   from = λ a. 0;
   chk = λ a. 0;
@@ -205,7 +206,7 @@ ext c = iso (pair extension c) (λ p. p .1) (λ a. (record {}, a)) (λ p. refl)
 abbrev pub signedField : ℕ → ℕ → Field Signed
 signedField k hi = record {
   width = width (hi + k);
-  judge = λ v. unless (leb v (hi + k)) 8;
+  judge = λ v. unless (leb v (hi + k)) ABOVE-RANGE;
   to = λ v. record { number = subℕ v k };
   from = λ a. raised k (a .number);
   chk = λ a. raisedChk k hi (a .number);
@@ -220,7 +221,7 @@ signed k hi = field (signedField k hi)
 
 -- "Presence bits follow, one for each optional or default field": one number, whose bits stand in `carried`, else 10; where one must be there, none is 15
 abbrev pub maskBad : ℕ → Bool → ℕ → ℕ
-maskBad carried need v = first (unless (eqb (bitAnd v carried) v) 10) (unless (not (need && eqb v 0)) 15)
+maskBad carried need v = first (unless (eqb (bitAnd v carried) v) NOT-CARRIED) (unless (not (need && eqb v 0)) NO-ELEMENT)
 
 -- a presence bit of weight w is set
 unfoldable pub has : ℕ → ℕ → Bool
@@ -238,13 +239,13 @@ pub record Alt {E : Type 0} (tag : E → ℕ) (i : ℕ) : Type 0 where
 -- the values that `make` makes
 unfoldable pub altCodec : {E P : Type 0} (tag : E → ℕ) (i : ℕ) (c : Codec P) (make : P → E) (get : E → P)
     → ((p : P) → tag (make p) ≡ i) → ((p : P) → get (make p) ≡ p) → Codec E
-altCodec tag i c make get t g = via c make get (λ e. unless (eqb (tag e) i) 5) (λ p h s. (rw (eq-eqb (tag (make p)) i (t p)), g p))
+altCodec tag i c make get t g = via c make get (λ e. unless (eqb (tag e) i) OUT-OF-RANGE) (λ p h s. (rw (eq-eqb (tag (make p)) i (t p)), g p))
 
 -- its index is the only tag that it writes
 pub alt-own : {E P : Type 0} (tag : E → ℕ) (i : ℕ) (c : Codec P) (make : P → E) (get : E → P)
     (t : (p : P) → tag (make p) ≡ i) (g : (p : P) → get (make p) ≡ p) (e : E) → altCodec tag i c make get t g .chk e ≡ 0 → tag e ≡ i
 unfolding altCodec via
-alt-own tag i c make get t g e h = eqb-true (tag e) i (unless-true (eqb (tag e) i) 4 (first-0 (unless (eqb (tag e) i) 5) (c .chk (get e)) h))
+alt-own tag i c make get t g e h = eqb-true (tag e) i (unless-true (eqb (tag e) i) 4 (first-0 (unless (eqb (tag e) i) OUT-OF-RANGE) (c .chk (get e)) h))
 
 -- the alternative of index i
 abbrev pub alt : {E P : Type 0} (tag : E → ℕ) (i : ℕ) (c : Codec P) (make : P → E) (get : E → P)
@@ -253,7 +254,7 @@ alt tag i c make get t g = record { codec = altCodec tag i c make get t g; own =
 
 -- an index that is not used
 unfoldable pub neverCodec : {E : Type 0} → E → Codec E
-neverCodec z = only (absent z) (λ e. 8)
+neverCodec z = only (absent z) (λ e. ABOVE-RANGE)
 
 -- nothing is written by it
 pub never-own : {E : Type 0} (z : E) (n : ℕ) (e : E) → neverCodec z .chk e ≡ 0 → n ≡ 0
@@ -282,10 +283,10 @@ choice top tag alts = via (dep (index top) (λ i. alts i .codec)) (λ p. p .1) (
 abbrev pub countField : Field ℕ
 countField = record {
   width = 8;
-  judge = λ n. unless (leb n 16) 12;
+  judge = λ n. unless (leb n 16) LIST-OVER;
   to = λ n. n;
   from = λ n. n;
-  chk = λ n. unless (leb n 16) 12;
+  chk = λ n. unless (leb n 16) LIST-OVER;
   none = 0;
   write = λ n h. (count-write n h, h, refl);
   read = λ n l g. (g, refl);
@@ -312,8 +313,8 @@ rest (a ∷ l) = l
 
 -- n values, one after the other
 unfoldable pub vec : {A : Type 0} → Codec A → ℕ → Codec (List A)
-vec c zero = via null (λ u. []) (λ l. record {}) (λ l. unless (isNil l) 5) (λ u h s. (refl, refl))
-vec c (suc n) = via (pair c (vec c n)) (λ p. p .0 ∷ p .1) (λ l. (headOr (c .none) l, rest l)) (λ l. unless (not (isNil l)) 5) (λ p h s. (refl, refl))
+vec c zero = via null (λ u. []) (λ l. record {}) (λ l. unless (isNil l) OUT-OF-RANGE) (λ u h s. (refl, refl))
+vec c (suc n) = via (pair c (vec c n)) (λ p. p .0 ∷ p .1) (λ l. (headOr (c .none) l, rest l)) (λ l. unless (not (isNil l)) OUT-OF-RANGE) (λ p h s. (refl, refl))
 
 -- only n values are written as n
 pub vec-length : {A : Type 0} (c : Codec A) (n : ℕ) (l : List A) → vec c n .chk l ≡ 0 → length l ≡ n

@@ -7,6 +7,7 @@ use lib.Dec.{eqb, leb}
 use Rattle.per.specs.declared.cursor.Cursor.{Cursor}
 use Rattle.per.specs.Bits.{numAt, bitsOf}
 use Rattle.per.specs.Codec.{Codec, first, unless, refuse}
+use Rattle.refusals.specs.Refusals.{FILLING, INPUT-OVER, OCTETS-AFTER}
 
 -- how many bits fill n bits to an octet
 abbrev pub fill : ℕ → ℕ
@@ -30,11 +31,11 @@ window s = bitsOf (take 128 s)
 
 -- refusal 16 comes before everything
 unfoldable pub start : List ℕ → Cursor
-start s = refuse 0 (unless (leb (length s) 128) 16)
+start s = refuse 0 (unless (leb (length s) 128) INPUT-OVER)
 
 -- after the last field: the filling (13), and octets after the PDU (14)
 abbrev pub ending : List Bool → ℕ → ℕ
-ending bs at = first (unless (eqb (numAt bs at (fill at)) 0) 13) (unless (eqb (at + fill at) (length bs)) 14)
+ending bs at = first (unless (eqb (numAt bs at (fill at)) 0) FILLING) (unless (eqb (at + fill at) (length bs)) OCTETS-AFTER)
 
 unfoldable pub finish : List Bool → Cursor → Cursor
 finish bs j = refuse (j .at) (first (j .refusal) (ending bs (j .at)))

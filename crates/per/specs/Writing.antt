@@ -11,6 +11,7 @@ use Rattle.per.specs.declared.pen.Written.the-variants.{Octets, Refused}
 use Rattle.per.specs.Bits.{ofBit}
 use Rattle.per.specs.Codec.{Codec, first, unless}
 use Rattle.per.specs.Pdu.{encode}
+use Rattle.refusals.specs.Refusals.{NO-ROOM}
 
 -- an octet with its bit of weight 2 ^ k made b
 unfoldable pub octetWith : ℕ → ℕ → ℕ → ℕ
@@ -48,7 +49,7 @@ delivered (suc n) pdu o = unsent (suc n) o
 
 -- "Writing: 5, 10, 12, 15 in field order, then 6. A good write leaves octets past its end"
 unfoldable pub writePdu : {A : Type 0} → Codec A → A → List ℕ → Delivered
-writePdu c a o = delivered (first (c .chk a) (unless (leb (length (encode c a)) (length o)) 6)) (encode c a) o
+writePdu c a o = delivered (first (c .chk a) (unless (leb (length (encode c a)) (length o)) NO-ROOM)) (encode c a) o
 
 -- how many octets n bits lie in
 abbrev pub octetsFor : ℕ → ℕ
@@ -58,7 +59,7 @@ octetsFor n = n / 8 + (n % 8 + 7) / 8
 unfoldable pub deliver : Pen → List ℕ → List ℕ → Delivered
 deliver p s o =
     let n = octetsFor (p .at) in
-    delivered (first (p .refusal) (unless (leb n (length s) && leb n (length o)) 6)) (take n s) o
+    delivered (first (p .refusal) (unless (leb n (length s) && leb n (length o)) NO-ROOM)) (take n s) o
 
 -- the pen with the refusal n, unless it has one
 unfoldable pub barred : Pen → ℕ → Pen

@@ -7,6 +7,7 @@ use Rattle.per.specs.Bits.{toBits}
 use Rattle.per.specs.Field.{raised, raisedChk}
 use Rattle.per.specs.declared.pen.Pen.{Pen}
 use Rattle.per.specs.Writing.{putBits, onward}
+use Rattle.refusals.specs.Refusals.{OUT-OF-RANGE}
 
 -- w bits of v were written from the pen's place on
 pub record Inked (s : List ℕ) (p : Pen) (w v : ℕ) (next : Pen) (octets : List ℕ) : Type 0 where
@@ -16,4 +17,4 @@ pub record Inked (s : List ℕ) (p : Pen) (w v : ℕ) (next : Pen) (octets : Lis
 -- n is what is sent of the number z of -k..hi, or is above what can be
 pub record Raised (k hi : ℕ) (z : ℤ) (n : ℕ) : Type 0 where
   pub within : n ≤ hi + k → (raisedChk k hi z ≡ 0) × (n ≡ raised k z)
-  pub beyond : hi + k < n → raisedChk k hi z ≡ 5
+  pub beyond : hi + k < n → raisedChk k hi z ≡ OUT-OF-RANGE

@@ -3,6 +3,7 @@ use crate::read_bits::bits_at;
 use crate::read_bits::left;
 use crate::read_bits::room;
 use crate::read_bits::width_of;
+use refusals::*;
 ghost use mathlib.Core.Path.{_≡_};
 ghost use mathlib.Core.Bool.{not};
 ghost use Prim.Native.Nat.{_+_, _-_};
@@ -12,6 +13,7 @@ ghost use Rattle.per.specs.Formats.{run, num, flag, extension, signed, m
 ghost use Rattle.per.specs.Pdu.{window, start, ending, finish};
 ghost use Rattle.per.specs.Reading.{Reads};
 ghost use Rattle.per.specs.ReadingInner.{settled};
+ghost use Rattle.refusals.specs.Refusals.{EXTENSION-SET, LIST-OVER};
 
 // Where reading stands, and the first refusal it met (0: none).
 pub struct Cursor {
@@ -59,26 +61,26 @@ fn span(lo: u32, hi: u32) -> u32
 }
 
 fn extension_bad(v: u32) -> u8
-    ensures { λ r. ⌜ r ≡ unless (eqb v 0) 9 ⌝ }
+    ensures { λ r. ⌜ r ≡ unless (eqb v 0) EXTENSION-SET ⌝ }
 {
-    if v == 0 { 0 } else { 9 }
+    if v == 0 { 0 } else { EXTENSION_SET }
 }
 
 fn count_bad(v: u32) -> u8
-    ensures { λ r. ⌜ r ≡ unless (leb v 16) 12 ⌝ }
+    ensures { λ r. ⌜ r ≡ unless (leb v 16) LIST-OVER ⌝ }
 {
-    if v <= 16 { 0 } else { 12 }
+    if v <= 16 { 0 } else { LIST_OVER }
 }
 
 pub fn mask_bad(v: u32, carried: u32, need: bool) -> u8
     ensures { λ r. ⌜ r ≡ maskBad carried need v ⌝ }
 {
     if v & carried != v {
-        return 10;
+        return NOT_CARRIED;
     }
     if need {
         if v == 0 {
-            return 15;
+            return NO_ELEMENT;
         }
     }
     0
@@ -97,14 +99,14 @@ fn ending_bad(s: &[u8], at: usize) -> u8
 {
     let end = room(s);
     if end < at {
-        return 14;
+        return OCTETS_AFTER;
     }
     let f = (8 - at % 8) % 8;
     if bits_at(s, at, f) != 0 {
-        return 13;
+        return FILLING;
     }
     if at + f != end {
-        return 14;
+        return OCTETS_AFTER;
     }
     0
 }
@@ -117,7 +119,10 @@ impl Cursor {
         if s.len() <= 128 {
             return Self { at: 0, refusal: 0 };
         }
-        Self { at: 0, refusal: 16 }
+        Self {
+            at: 0,
+            refusal: INPUT_OVER,
+        }
     }
 
     // The next w bits as a number, w up to 32.
@@ -134,13 +139,19 @@ impl Cursor {
         if left(s, at) < w {
             return Num {
                 value: 0,
-                next: Cursor { at, refusal: 7 },
+                next: Cursor {
+                    at,
+                    refusal: CUT_SHORT,
+                },
             };
         }
         if 32 < w {
             return Num {
                 value: 0,
-                next: Cursor { at, refusal: 8 },
+                next: Cursor {
+                    at,
+                    refusal: ABOVE_RANGE,
+                },
             };
         }
         let v = bits_at(s, at, w);
@@ -188,7 +199,7 @@ impl Cursor {
                 value: 0,
                 next: Cursor {
                     at: self.at,
-                    refusal: 8,
+                    refusal: ABOVE_RANGE,
                 },
             };
         }
@@ -274,7 +285,7 @@ impl Cursor {
                 value: Signed { number: 0 },
                 next: Cursor {
                     at: self.at,
-                    refusal: 8,
+                    refusal: ABOVE_RANGE,
                 },
             };
         }

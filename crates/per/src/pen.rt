@@ -4,6 +4,7 @@ use crate::cursor::mask_bad;
 use crate::read_bits::width_of;
 use crate::write_bits::pow2;
 use crate::write_bits::put_bits;
+use refusals::*;
 ghost use mathlib.Core.Path.{_≡_};
 ghost use Prim.Native.Nat.{_≤_};
 ghost use mathlib.Core.List.{_++_};
@@ -115,10 +116,16 @@ impl Pen {
             return self;
         }
         if 32 < w {
-            return Pen { at, refusal: 5 };
+            return Pen {
+                at,
+                refusal: OUT_OF_RANGE,
+            };
         }
         if pow2(w) <= v as u64 {
-            return Pen { at, refusal: 5 };
+            return Pen {
+                at,
+                refusal: OUT_OF_RANGE,
+            };
         }
         self.ink(out, w, v)
     }
@@ -132,10 +139,16 @@ impl Pen {
             return self;
         }
         if v < lo {
-            return Pen { at, refusal: 5 };
+            return Pen {
+                at,
+                refusal: OUT_OF_RANGE,
+            };
         }
         if hi < v {
-            return Pen { at, refusal: 5 };
+            return Pen {
+                at,
+                refusal: OUT_OF_RANGE,
+            };
         }
         self.ink(out, width_of(hi - lo), v - lo)
     }
@@ -186,7 +199,10 @@ impl Pen {
             return self;
         }
         if 16 < n {
-            return Pen { at, refusal: 12 };
+            return Pen {
+                at,
+                refusal: LIST_OVER,
+            };
         }
         self.ink(out, 8, n)
     }
@@ -201,7 +217,10 @@ impl Pen {
             return self;
         }
         if all < v {
-            return Pen { at, refusal: 5 };
+            return Pen {
+                at,
+                refusal: OUT_OF_RANGE,
+            };
         }
         if bad != 0 {
             return Pen { at, refusal: bad };
@@ -220,7 +239,10 @@ impl Pen {
             return self;
         }
         if most < sent {
-            return Pen { at, refusal: 5 };
+            return Pen {
+                at,
+                refusal: OUT_OF_RANGE,
+            };
         }
         self.ink(out, width_of(most), sent)
     }
@@ -236,10 +258,10 @@ impl Pen {
             return Written::Refused(refusal);
         }
         if sheet.len() < n {
-            return Written::Refused(6);
+            return Written::Refused(NO_ROOM);
         }
         if out.len() < n {
-            return Written::Refused(6);
+            return Written::Refused(NO_ROOM);
         }
         copy(sheet, n, out);
         Written::Octets(n)

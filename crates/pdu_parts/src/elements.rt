@@ -1,0 +1,42 @@
+// Presence bits by name, the first that is sent as the highest; which of them are carried.
+
+// A report: "7 presence bits (aircraft address, projected profile, ground vector, air vector, weather, short-term intent, extended profile)".
+pub const ADDRESS: u32 = 64;
+
+pub const PROFILE: u32 = 32;
+
+pub const GROUND_VECTOR: u32 = 16;
+
+pub const AIR_VECTOR: u32 = 8;
+
+pub const WEATHER: u32 = 4;
+
+pub const REPORT_BITS: u32 = 127;
+
+pub const REPORT_CARRIED: u32 = ADDRESS;
+
+// An emergency report: "2 presence bits (address, ground vector)".
+pub const EMERGENCY_ADDRESS: u32 = 2;
+
+pub const EMERGENCY_BITS: u32 = 3;
+
+pub const EMERGENCY_CARRIED: u32 = EMERGENCY_ADDRESS;
+
+// A demand contract: "as in the report; the first five NULL, the last two not carried".
+pub const DEMAND_CARRIED: u32 = ADDRESS + PROFILE + GROUND_VECTOR + AIR_VECTOR + WEATHER;
+
+// A periodic contract: "8 presence bits (interval ..; five moduli .. in the report's order; two not carried)".
+pub const INTERVAL: u32 = 128;
+
+pub const PERIODIC_BITS: u32 = 255;
+
+pub const PERIODIC_CARRIED: u32 = INTERVAL + DEMAND_CARRIED;
+
+// An event contract: "11 presence bits; only waypoint change (fourth) and merit change (ninth) are carried".
+pub const WAYPOINT_CHANGE: u32 = 128;
+
+pub const MERIT_CHANGE: u32 = 4;
+
+pub const EVENT_BITS: u32 = 2047;
+
+pub const EVENT_CARRIED: u32 = WAYPOINT_CHANGE + MERIT_CHANGE;
