@@ -17,6 +17,7 @@ use Rattle.pdu.specs.declared.downlink.Air.the-variants.{CancelEmergency, Deman
 use Rattle.pdu.specs.declared.downlink.AirPdu.{AirPdu}
 use Rattle.host_numbers.specs.Numbers.{truth, numberBy, itemsOf}
 use Rattle.host_numbers.specs.ReportNumbers.{flatFix, fixAt, reportAt}
+use Rattle.host_numbers.specs.Places.{A-KIND, A-WHAT, A-DETAIL, A-COUNT, A-ELEMENTS, A-ADDRESS}
 
 -- a PDU without a report: its kind, the numbers at 1 and 2, and how many entries its list has
 abbrev pub few : ℕ → ℕ → ℕ → ℕ → List ℕ
@@ -48,20 +49,20 @@ flatAir (Abort n) count = few 8 n 0 0
 
 -- and back. Numbers that are not there are 0. Before the report stands whether a positive ack goes with it
 unfoldable pub ackedAt : List ℕ → AckedReport
-ackedAt f = record { ack = truth (getD f 1 0); report = reportAt f }
+ackedAt f = record { ack = truth (getD f A-WHAT 0); report = reportAt f }
 
 -- the same of an emergency
 unfoldable pub urgentAt : List ℕ → AckedEmergency
 urgentAt f =
-    record { ack = truth (getD f 1 0); report = record { elements = numberBy f 1 4; fix = fixAt f; address = getD f 24 0 } }
+    record { ack = truth (getD f A-WHAT 0); report = record { elements = numberBy f A-WHAT A-ELEMENTS; fix = fixAt f; address = getD f A-ADDRESS 0 } }
 
 -- and of an event report, with the event type
 unfoldable pub eventAt : List ℕ → EventReport
-eventAt f = record { ack = truth (getD f 1 0); event = getD f 2 0; report = reportAt f }
+eventAt f = record { ack = truth (getD f A-WHAT 0); event = getD f A-DETAIL 0; report = reportAt f }
 
 -- request type and reason
 abbrev pub negativeAt : List ℕ → NegativeAck
-negativeAt f = record { request = getD f 1 0; reason = getD f 2 0 }
+negativeAt f = record { request = getD f A-WHAT 0; reason = getD f A-DETAIL 0 }
 
 -- by the index of 01's table. A kind over 8 gives an abort of reason 8, which the writer refuses with 5
 abbrev pub kindBy : ℕ → List ℕ → Air
@@ -70,21 +71,21 @@ kindBy (suc zero) f = Demand (ackedAt f)
 kindBy (suc (suc zero)) f = Emergency (urgentAt f)
 kindBy (suc (suc (suc zero))) f = Event (eventAt f)
 kindBy (suc (suc (suc (suc zero)))) f = Negative (negativeAt f)
-kindBy (suc (suc (suc (suc (suc zero))))) f = Noncompliance (getD f 1 0)
+kindBy (suc (suc (suc (suc (suc zero))))) f = Noncompliance (getD f A-WHAT 0)
 kindBy (suc (suc (suc (suc (suc (suc zero)))))) f = Periodic (ackedAt f)
-kindBy (suc (suc (suc (suc (suc (suc (suc zero))))))) f = Positive (getD f 1 0)
-kindBy (suc (suc (suc (suc (suc (suc (suc (suc zero)))))))) f = Abort (getD f 1 0)
+kindBy (suc (suc (suc (suc (suc (suc (suc zero))))))) f = Positive (getD f A-WHAT 0)
+kindBy (suc (suc (suc (suc (suc (suc (suc (suc zero)))))))) f = Abort (getD f A-WHAT 0)
 kindBy (suc (suc (suc (suc (suc (suc (suc (suc (suc k))))))))) f = Abort 8
 
 unfoldable pub kindAt : List ℕ → Air
-kindAt f = kindBy (getD f 0 0) f
+kindAt f = kindBy (getD f A-KIND 0) f
 
 -- the list, for the two kinds that carry one
 abbrev pub listedAt : List ℕ → List ℕ → Listed
-listedAt f l = record { count = getD f 3 0; items = itemsOf l }
+listedAt f l = record { count = getD f A-COUNT 0; items = itemsOf l }
 
 unfoldable pub listAt : List ℕ → List ℕ → Listed
-listAt f l = cond (eqb (getD f 0 0) 4) (listedAt f l) (cond (eqb (getD f 0 0) 5) (listedAt f l) noList)
+listAt f l = cond (eqb (getD f A-KIND 0) 4) (listedAt f l) (cond (eqb (getD f A-KIND 0) 5) (listedAt f l) noList)
 
 -- the whole PDU
 unfoldable pub airAt : List ℕ → List ℕ → AirPdu

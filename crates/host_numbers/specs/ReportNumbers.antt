@@ -8,6 +8,7 @@ use lib.ListN.{getD}
 use Rattle.pdu_parts.specs.declared.report.Fix.{Fix}
 use Rattle.pdu_parts.specs.declared.report.Report.{Report}
 use Rattle.host_numbers.specs.Numbers.{truth, numberBy, bitOf, twos, signedOf}
+use Rattle.host_numbers.specs.Places.{A-WHAT, A-ELEMENTS, A-SOUTH, A-LATITUDE, A-LATITUDE-MINUTES, A-LATITUDE-TENTHS, A-WEST, A-LONGITUDE, A-LONGITUDE-MINUTES, A-LONGITUDE-TENTHS, A-LEVEL, A-YEAR, A-MONTH, A-DAY, A-HAS-SECONDS, A-HOURS, A-MINUTES, A-SECONDS, A-ACCURACY, A-UNITS, A-AVOIDANCE, A-ADDRESS}
 
 -- kind, whether a positive ack goes with the report, event type, no list, and the report
 unfoldable pub flatFix : ℕ → Bool → ℕ → ℕ → Fix → ℕ → List ℕ
@@ -20,7 +21,7 @@ flatFix kind ack event elements x address =
 
 -- and back. Numbers that are not there are 0. Two truth values stand beside the accuracy
 unfoldable pub accuracyAt : List ℕ → ℕ
-accuracyAt f = cond (ltb (getD f 22 0) 2) (numberBy f 23 21) 4294967295
+accuracyAt f = cond (ltb (getD f A-UNITS 0) 2) (numberBy f A-AVOIDANCE A-ACCURACY) 4294967295
 
 -- position, time and figure of merit
 unfoldable pub fixAt : List ℕ → Fix
@@ -28,23 +29,23 @@ fixAt f =
     record {
       position =
           record {
-            latitude = record { minus = truth (getD f 5 0); degrees = numberBy f 5 6; minutes = getD f 7 0; tenths = getD f 8 0 };
-            longitude = record { minus = truth (getD f 9 0); degrees = numberBy f 9 10; minutes = getD f 11 0; tenths = getD f 12 0 };
-            level = signedOf (getD f 13 0);
+            latitude = record { minus = truth (getD f A-SOUTH 0); degrees = numberBy f A-SOUTH A-LATITUDE; minutes = getD f A-LATITUDE-MINUTES 0; tenths = getD f A-LATITUDE-TENTHS 0 };
+            longitude = record { minus = truth (getD f A-WEST 0); degrees = numberBy f A-WEST A-LONGITUDE; minutes = getD f A-LONGITUDE-MINUTES 0; tenths = getD f A-LONGITUDE-TENTHS 0 };
+            level = signedOf (getD f A-LEVEL 0);
           };
       time =
           record {
-            year = getD f 14 0;
-            month = getD f 15 0;
-            day = getD f 16 0;
-            «has_seconds» = truth (getD f 17 0);
-            hours = numberBy f 17 18;
-            minutes = getD f 19 0;
-            seconds = getD f 20 0;
+            year = getD f A-YEAR 0;
+            month = getD f A-MONTH 0;
+            day = getD f A-DAY 0;
+            «has_seconds» = truth (getD f A-HAS-SECONDS 0);
+            hours = numberBy f A-HAS-SECONDS A-HOURS;
+            minutes = getD f A-MINUTES 0;
+            seconds = getD f A-SECONDS 0;
           };
-      merit = record { accuracy = accuracyAt f; units = truth (getD f 22 0); avoidance = truth (getD f 23 0) };
+      merit = record { accuracy = accuracyAt f; units = truth (getD f A-UNITS 0); avoidance = truth (getD f A-AVOIDANCE 0) };
     }
 
 -- a report's presence bits, these three, and the address
 unfoldable pub reportAt : List ℕ → Report
-reportAt f = record { elements = numberBy f 1 4; fix = fixAt f; address = getD f 24 0 }
+reportAt f = record { elements = numberBy f A-WHAT A-ELEMENTS; fix = fixAt f; address = getD f A-ADDRESS 0 }

@@ -8,6 +8,7 @@ use Rattle.pdu_parts.specs.declared.interval.Interval.the-variants.{Seconds, Mi
 use Rattle.pdu_parts.specs.declared.periodic.Periodic.{Periodic}
 use Rattle.pdu.specs.declared.uplink.Ground.{Ground}
 use Rattle.pdu.specs.declared.uplink.Ground.the-variants.{CancelAll, CancelContract, CancelEmergencyAck, DemandContract, EventContract, ModifyEmergency, PeriodicContract, Abort}
+use Rattle.host_numbers.specs.Places.{G-KIND, G-WHAT, G-SCALE, G-INTERVAL, G-ADDRESS, G-PROFILE, G-GROUND-VECTOR, G-AIR-VECTOR, G-WEATHER}
 
 abbrev pub scaleOf : Interval → ℕ
 scaleOf (Seconds n) = 0
@@ -46,25 +47,25 @@ intervalOf (suc (suc k)) n = Seconds 0
 abbrev pub periodicAt : List ℕ → Periodic
 periodicAt f =
     record {
-      interval = intervalOf (getD f 2 0) (getD f 3 0);
-      elements = getD f 1 0;
-      address = getD f 4 0;
-      profile = getD f 5 0;
-      ground = getD f 6 0;
-      air = getD f 7 0;
-      weather = getD f 8 0;
+      interval = intervalOf (getD f G-SCALE 0) (getD f G-INTERVAL 0);
+      elements = getD f G-WHAT 0;
+      address = getD f G-ADDRESS 0;
+      profile = getD f G-PROFILE 0;
+      ground = getD f G-GROUND-VECTOR 0;
+      air = getD f G-AIR-VECTOR 0;
+      weather = getD f G-WEATHER 0;
     }
 
 abbrev pub groundBy : ℕ → List ℕ → Ground
 groundBy zero f = CancelAll
-groundBy (suc zero) f = CancelContract (getD f 1 0)
+groundBy (suc zero) f = CancelContract (getD f G-WHAT 0)
 groundBy (suc (suc zero)) f = CancelEmergencyAck
-groundBy (suc (suc (suc zero))) f = DemandContract (getD f 1 0)
-groundBy (suc (suc (suc (suc zero)))) f = EventContract (getD f 1 0)
-groundBy (suc (suc (suc (suc (suc zero))))) f = ModifyEmergency (intervalOf (getD f 2 0) (getD f 3 0))
+groundBy (suc (suc (suc zero))) f = DemandContract (getD f G-WHAT 0)
+groundBy (suc (suc (suc (suc zero)))) f = EventContract (getD f G-WHAT 0)
+groundBy (suc (suc (suc (suc (suc zero))))) f = ModifyEmergency (intervalOf (getD f G-SCALE 0) (getD f G-INTERVAL 0))
 groundBy (suc (suc (suc (suc (suc (suc zero)))))) f = PeriodicContract (periodicAt f)
-groundBy (suc (suc (suc (suc (suc (suc (suc zero))))))) f = Abort (getD f 1 0)
+groundBy (suc (suc (suc (suc (suc (suc (suc zero))))))) f = Abort (getD f G-WHAT 0)
 groundBy (suc (suc (suc (suc (suc (suc (suc (suc k)))))))) f = Abort 8
 
 unfoldable pub groundAt : List ℕ → Ground
-groundAt f = groundBy (getD f 0 0) f
+groundAt f = groundBy (getD f G-KIND 0) f

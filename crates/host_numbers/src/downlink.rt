@@ -3,6 +3,7 @@ use crate::copy::items_of;
 use crate::numbers::number;
 use crate::numbers::number_by;
 use crate::numbers::truth_at;
+use crate::places::*;
 use crate::reports::fix_at;
 use crate::reports::flat_fix;
 use crate::reports::flat_report;
@@ -93,7 +94,7 @@ pub fn flat_air(kind: Air, count: u32) -> [u32; 25]
 fn acked_at(f: &[u32]) -> AckedReport
     ensures { λ r. ⌜ r ≡ ackedAt (now (f .entry)) ⌝ }
 {
-    let ack = truth_at(f, 1);
+    let ack = truth_at(f, A_WHAT);
     let report = report_at(f);
     AckedReport { ack, report }
 }
@@ -101,12 +102,12 @@ fn acked_at(f: &[u32]) -> AckedReport
 fn urgent_at(f: &[u32]) -> AckedEmergency
     ensures { λ r. ⌜ r ≡ urgentAt (now (f .entry)) ⌝ }
 {
-    let ack = truth_at(f, 1);
+    let ack = truth_at(f, A_WHAT);
     let fix = fix_at(f);
     let report = EmergencyReport {
-        elements: number_by(f, 1, 4),
+        elements: number_by(f, A_WHAT, A_ELEMENTS),
         fix,
-        address: number(f, 24),
+        address: number(f, A_ADDRESS),
     };
     AckedEmergency { ack, report }
 }
@@ -114,11 +115,11 @@ fn urgent_at(f: &[u32]) -> AckedEmergency
 fn event_at(f: &[u32]) -> EventReport
     ensures { λ r. ⌜ r ≡ eventAt (now (f .entry)) ⌝ }
 {
-    let ack = truth_at(f, 1);
+    let ack = truth_at(f, A_WHAT);
     let report = report_at(f);
     EventReport {
         ack,
-        event: number(f, 2),
+        event: number(f, A_DETAIL),
         report,
     }
 }
@@ -127,8 +128,8 @@ fn negative_at(f: &[u32]) -> NegativeAck
     ensures { λ r. ⌜ r ≡ negativeAt (now (f .entry)) ⌝ }
 {
     NegativeAck {
-        request: number(f, 1),
-        reason: number(f, 2),
+        request: number(f, A_WHAT),
+        reason: number(f, A_DETAIL),
     }
 }
 
@@ -136,17 +137,17 @@ fn negative_at(f: &[u32]) -> NegativeAck
 fn kind_at(f: &[u32]) -> Air
     ensures { λ r. ⌜ r ≡ kindAt (now (f .entry)) ⌝ }
 {
-    let kind = number(f, 0);
+    let kind = number(f, A_KIND);
     match kind {
         0 => Air::CancelEmergency,
         1 => Air::Demand(acked_at(f)),
         2 => Air::Emergency(urgent_at(f)),
         3 => Air::Event(event_at(f)),
         4 => Air::Negative(negative_at(f)),
-        5 => Air::Noncompliance(number(f, 1)),
+        5 => Air::Noncompliance(number(f, A_WHAT)),
         6 => Air::Periodic(acked_at(f)),
-        7 => Air::Positive(number(f, 1)),
-        8 => Air::Abort(number(f, 1)),
+        7 => Air::Positive(number(f, A_WHAT)),
+        8 => Air::Abort(number(f, A_WHAT)),
         _ => Air::Abort(8),
     }
 }
@@ -156,7 +157,7 @@ fn listed_at(f: &[u32], list: &[u8]) -> Listed
 {
     let items = items_of(list);
     Listed {
-        count: number(f, 3),
+        count: number(f, A_COUNT),
         items,
     }
 }
@@ -165,7 +166,7 @@ fn listed_at(f: &[u32], list: &[u8]) -> Listed
 fn list_at(f: &[u32], list: &[u8]) -> Listed
     ensures { λ r. ⌜ r ≡ listAt (now (f .entry)) (now (list .entry)) ⌝ }
 {
-    let kind = number(f, 0);
+    let kind = number(f, A_KIND);
     match kind {
         4 => listed_at(f, list),
         5 => listed_at(f, list),

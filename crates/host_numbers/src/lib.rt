@@ -2,5 +2,6 @@
 pub mod copy;
 pub mod downlink;
 pub mod numbers;
+pub mod places;
 pub mod reports;
 pub mod uplink;

@@ -5,6 +5,7 @@ use crate::numbers::number;
 use crate::numbers::number_by;
 use crate::numbers::signed_at;
 use crate::numbers::truth_at;
+use crate::places::*;
 use pdu_parts::position::Angle;
 use pdu_parts::position::Position;
 use pdu_parts::report::Fix;
@@ -62,21 +63,21 @@ pub fn flat_report(kind: u32, ack: bool, event: u32, it: Report) -> [u32; 25]
 fn position_at(f: &[u32]) -> Position
     ensures { λ r. ⌜ r ≡ fixAt (now (f .entry)) .position ⌝ }
 {
-    let la = truth_at(f, 5);
+    let la = truth_at(f, A_SOUTH);
     let latitude = Angle {
         minus: la,
-        degrees: number_by(f, 5, 6),
-        minutes: number(f, 7),
-        tenths: number(f, 8),
+        degrees: number_by(f, A_SOUTH, A_LATITUDE),
+        minutes: number(f, A_LATITUDE_MINUTES),
+        tenths: number(f, A_LATITUDE_TENTHS),
     };
-    let lo = truth_at(f, 9);
+    let lo = truth_at(f, A_WEST);
     let longitude = Angle {
         minus: lo,
-        degrees: number_by(f, 9, 10),
-        minutes: number(f, 11),
-        tenths: number(f, 12),
+        degrees: number_by(f, A_WEST, A_LONGITUDE),
+        minutes: number(f, A_LONGITUDE_MINUTES),
+        tenths: number(f, A_LONGITUDE_TENTHS),
     };
-    let level = signed_at(f, 13);
+    let level = signed_at(f, A_LEVEL);
     Position {
         latitude,
         longitude,
@@ -88,8 +89,12 @@ fn position_at(f: &[u32]) -> Position
 fn accuracy_at(f: &[u32]) -> u32
     ensures { λ r. ⌜ r ≡ accuracyAt (now (f .entry)) ⌝ }
 {
-    let v = number_by(f, 23, 21);
-    if number(f, 22) < 2 { v } else { 4294967295 }
+    let v = number_by(f, A_AVOIDANCE, A_ACCURACY);
+    if number(f, A_UNITS) < 2 {
+        v
+    } else {
+        4294967295
+    }
 }
 
 pub fn fix_at(f: &[u32]) -> Fix
@@ -97,18 +102,18 @@ pub fn fix_at(f: &[u32]) -> Fix
 {
     let position = position_at(f);
     let time = Time {
-        year: number(f, 14),
-        month: number(f, 15),
-        day: number(f, 16),
-        has_seconds: truth_at(f, 17),
-        hours: number_by(f, 17, 18),
-        minutes: number(f, 19),
-        seconds: number(f, 20),
+        year: number(f, A_YEAR),
+        month: number(f, A_MONTH),
+        day: number(f, A_DAY),
+        has_seconds: truth_at(f, A_HAS_SECONDS),
+        hours: number_by(f, A_HAS_SECONDS, A_HOURS),
+        minutes: number(f, A_MINUTES),
+        seconds: number(f, A_SECONDS),
     };
     let merit = Merit {
         accuracy: accuracy_at(f),
-        units: truth_at(f, 22),
-        avoidance: truth_at(f, 23),
+        units: truth_at(f, A_UNITS),
+        avoidance: truth_at(f, A_AVOIDANCE),
     };
     Fix {
         position,
@@ -122,8 +127,8 @@ pub fn report_at(f: &[u32]) -> Report
 {
     let fix = fix_at(f);
     Report {
-        elements: number_by(f, 1, 4),
+        elements: number_by(f, A_WHAT, A_ELEMENTS),
         fix,
-        address: number(f, 24),
+        address: number(f, A_ADDRESS),
     }
 }

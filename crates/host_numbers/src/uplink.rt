@@ -1,5 +1,6 @@
 // Ground PDUs as nine numbers. Missing numbers count as 0; numbers that name nothing make a value that no writer takes.
 use crate::numbers::number;
+use crate::places::*;
 use pdu::uplink::Ground;
 use pdu_parts::interval::Interval;
 use pdu_parts::periodic::Periodic;
@@ -85,13 +86,13 @@ fn interval_of(scale: u32, n: u32) -> Interval
 fn periodic_at(f: &[u32]) -> Periodic
     ensures { λ r. ⌜ r ≡ periodicAt (now (f .entry)) ⌝ }
 {
-    let elements = number(f, 1);
-    let interval = interval_of(number(f, 2), number(f, 3));
-    let address = number(f, 4);
-    let profile = number(f, 5);
-    let ground = number(f, 6);
-    let air = number(f, 7);
-    let weather = number(f, 8);
+    let elements = number(f, G_WHAT);
+    let interval = interval_of(number(f, G_SCALE), number(f, G_INTERVAL));
+    let address = number(f, G_ADDRESS);
+    let profile = number(f, G_PROFILE);
+    let ground = number(f, G_GROUND_VECTOR);
+    let air = number(f, G_AIR_VECTOR);
+    let weather = number(f, G_WEATHER);
     Periodic {
         interval,
         elements,
@@ -107,15 +108,15 @@ fn periodic_at(f: &[u32]) -> Periodic
 pub fn ground_at(f: &[u32]) -> Ground
     ensures { λ r. ⌜ r ≡ groundAt (now (f .entry)) ⌝ }
 {
-    let kind = number(f, 0);
-    let n = number(f, 1);
+    let kind = number(f, G_KIND);
+    let n = number(f, G_WHAT);
     match kind {
         0 => Ground::CancelAll,
         1 => Ground::CancelContract(n),
         2 => Ground::CancelEmergencyAck,
         3 => Ground::DemandContract(n),
         4 => Ground::EventContract(n),
-        5 => Ground::ModifyEmergency(interval_of(number(f, 2), number(f, 3))),
+        5 => Ground::ModifyEmergency(interval_of(number(f, G_SCALE), number(f, G_INTERVAL))),
         6 => Ground::PeriodicContract(periodic_at(f)),
         7 => Ground::Abort(n),
         _ => Ground::Abort(8),
