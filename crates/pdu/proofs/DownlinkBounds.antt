@@ -4,13 +4,13 @@ use lib.Dec.{lit≤}
 use Rattle.per.specs.Bits.{width, widthIn}
 use Rattle.per.specs.Codec.{Within}
 use Rattle.per.specs.Formats.{flagField, numField}
-use Rattle.per.proofs.Within.{forms}
+use Rattle.per.proofs.Within.{forms, _then_, all, each-arm}
 use Rattle.per.proofs.Longest.{Most, up, a-field, a-pair, a-like, a-mark, a-null, a-when, an-alt, an-unused, a-choice, a-list}
 use Rattle.pdu_parts.specs.Lists.{listed, entryC, entriesC}
 use Rattle.pdu_parts.proofs.ListBounds.{listed-own, names-most}
 use Rattle.pdu_parts.proofs.ReportBounds.{report-own, emergency-own, report-most, emergency-most}
 use Rattle.pdu_parts.specs.AirParts.{ackedC, ackedEmergencyC, eventReportC, negativeC, entryTop, noncomplianceC}
-use Rattle.pdu.specs.DownlinkTable.{airAlt, airC}
+use Rattle.pdu.specs.DownlinkTable.{airArms, airAlt, airC}
 
 -- ---- one form
 acked-own : (n : ℕ) → Within n ackedC
@@ -35,16 +35,19 @@ noncompliance-own n = search (forms, listed-own) depth 12
 
 air-each : (n i : ℕ) → Within n (airAlt i .codec)
 unfolding airAlt
-air-each n zero = search forms
-air-each n (suc zero) = search (forms, acked-own)
-air-each n (suc (suc zero)) = search (forms, acked-emergency-own)
-air-each n (suc (suc (suc zero))) = search (forms, event-own)
-air-each n (suc (suc (suc (suc zero)))) = search (forms, negative-own)
-air-each n (suc (suc (suc (suc (suc zero))))) = search (forms, noncompliance-own)
-air-each n (suc (suc (suc (suc (suc (suc zero)))))) = search (forms, acked-own)
-air-each n (suc (suc (suc (suc (suc (suc (suc zero))))))) = search forms
-air-each n (suc (suc (suc (suc (suc (suc (suc (suc zero)))))))) = search forms
-air-each n (suc (suc (suc (suc (suc (suc (suc (suc (suc i))))))))) = search forms
+air-each n =
+    each-arm (λ c. Within n c) airArms _
+    (search forms
+    then search (forms, acked-own)
+    then search (forms, acked-emergency-own)
+    then search (forms, event-own)
+    then search (forms, negative-own)
+    then search (forms, noncompliance-own)
+    then search (forms, acked-own)
+    then search forms
+    then search forms
+    then all)
+    (search forms)
 
 pub air-own : Within 0 airC
 unfolding airC
@@ -80,16 +83,18 @@ noncompliance-most = up (lit≤ tt) (a-pair _ (a-field (numField 0 2)) entries-m
 
 air-bits : (i : ℕ) → Most 911 (airAlt i .codec)
 unfolding airAlt width widthIn
-air-bits zero = an-alt _ _ _ _ _ _ (a-null _ 911)
-air-bits (suc zero) = an-alt _ _ _ _ _ _ (a-mark (lit≤ tt) acked-most)
-air-bits (suc (suc zero)) = an-alt _ _ _ _ _ _ (a-mark (lit≤ tt) acked-emergency-most)
-air-bits (suc (suc (suc zero))) = an-alt _ _ _ _ _ _ (a-mark (lit≤ tt) event-most)
-air-bits (suc (suc (suc (suc zero)))) = an-alt _ _ _ _ _ _ negative-most
-air-bits (suc (suc (suc (suc (suc zero))))) = an-alt _ _ _ _ _ _ (a-mark (lit≤ tt) noncompliance-most)
-air-bits (suc (suc (suc (suc (suc (suc zero)))))) = an-alt _ _ _ _ _ _ (a-mark (lit≤ tt) acked-most)
-air-bits (suc (suc (suc (suc (suc (suc (suc zero))))))) = an-alt _ _ _ _ _ _ (a-mark (lit≤ tt) (a-field (numField 0 7)))
-air-bits (suc (suc (suc (suc (suc (suc (suc (suc zero)))))))) = an-alt _ _ _ _ _ _ (a-mark (lit≤ tt) (a-field (numField 0 7)))
-air-bits (suc (suc (suc (suc (suc (suc (suc (suc (suc i))))))))) = an-unused _ 911
+air-bits =
+    each-arm (λ c. Most 911 c) airArms _ (an-alt _ _ _ _ _ _ (a-null _ 911)
+    then an-alt _ _ _ _ _ _ (a-mark (lit≤ tt) acked-most)
+    then an-alt _ _ _ _ _ _ (a-mark (lit≤ tt) acked-emergency-most)
+    then an-alt _ _ _ _ _ _ (a-mark (lit≤ tt) event-most)
+    then an-alt _ _ _ _ _ _ negative-most
+    then an-alt _ _ _ _ _ _ (a-mark (lit≤ tt) noncompliance-most)
+    then an-alt _ _ _ _ _ _ (a-mark (lit≤ tt) acked-most)
+    then an-alt _ _ _ _ _ _ (a-mark (lit≤ tt) (a-field (numField 0 7)))
+    then an-alt _ _ _ _ _ _ (a-mark (lit≤ tt) (a-field (numField 0 7)))
+    then all)
+    (an-unused _ 911)
 
 pub air-most : Most 916 airC
 unfolding airC width widthIn

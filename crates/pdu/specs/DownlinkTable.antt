@@ -1,8 +1,9 @@
 -- The message table of 01, aircraft PDUs.
-use Prim.Native.Nat.{ℕ, zero, suc}
+use Prim.Native.Nat.{ℕ}
 use mathlib.Core.Path.{refl}
+use mathlib.Core.List.{List, [], _∷_}
 use Rattle.per.specs.Codec.{Codec}
-use Rattle.per.specs.Formats.{null, num, ext, choice, Alt, alt, unused}
+use Rattle.per.specs.Formats.{null, num, ext, choice, Alt, Arm, arm, altOf}
 use Rattle.pdu_parts.specs.Lists.{noList}
 use Rattle.pdu.specs.declared.downlink.Air.{Air}
 use Rattle.pdu.specs.declared.downlink.Air.the-variants.{CancelEmergency, Demand, Emergency, Event, Negative, Noncompliance, Periodic, Positive, Abort}
@@ -30,17 +31,21 @@ bareAir kind = record { kind = kind; list = noList }
 
 -- 0 cancel-emergency NULL; 1 demand report*; 2 emergency*; 3 event report*; 4 negative ack; 5 noncompliance*; 6 periodic report*;
 -- 7 positive ack: request type*, 0..7; 8 provider abort: reason*, 0..7
+abbrev pub airArms : List (Arm airTag)
+airArms =
+    arm 0 null (λ u. bareAir CancelEmergency) (λ a. record {}) (λ p. refl) (λ p. refl)
+    ∷ arm 1 (ext ackedC) (λ p. bareAir (Demand p)) (λ a. reportOf (a .kind)) (λ p. refl) (λ p. refl)
+    ∷ arm 2 (ext ackedEmergencyC) (λ p. bareAir (Emergency p)) (λ a. emergencyOf (a .kind)) (λ p. refl) (λ p. refl)
+    ∷ arm 3 (ext eventReportC) (λ p. bareAir (Event p)) (λ a. eventOf (a .kind)) (λ p. refl) (λ p. refl)
+    ∷ arm 4 negativeC (λ p. record { kind = Negative (p .0); list = p .1 }) (λ a. (negativeOf (a .kind), a .list)) (λ p. refl) (λ p. refl)
+    ∷ arm 5 (ext noncomplianceC) (λ p. record { kind = Noncompliance (p .0); list = p .1 }) (λ a. (numberOf (a .kind), a .list)) (λ p. refl) (λ p. refl)
+    ∷ arm 6 (ext ackedC) (λ p. bareAir (Periodic p)) (λ a. reportOf (a .kind)) (λ p. refl) (λ p. refl)
+    ∷ arm 7 (ext (num 0 7)) (λ n. bareAir (Positive n)) (λ a. numberOf (a .kind)) (λ p. refl) (λ p. refl)
+    ∷ arm 8 (ext (num 0 7)) (λ n. bareAir (Abort n)) (λ a. numberOf (a .kind)) (λ p. refl) (λ p. refl)
+    ∷ []
+
 unfoldable pub airAlt : (i : ℕ) → Alt airTag i
-airAlt zero = alt airTag 0 null (λ u. bareAir CancelEmergency) (λ a. record {}) (λ p. refl) (λ p. refl)
-airAlt (suc zero) = alt airTag 1 (ext ackedC) (λ p. bareAir (Demand p)) (λ a. reportOf (a .kind)) (λ p. refl) (λ p. refl)
-airAlt (suc (suc zero)) = alt airTag 2 (ext ackedEmergencyC) (λ p. bareAir (Emergency p)) (λ a. emergencyOf (a .kind)) (λ p. refl) (λ p. refl)
-airAlt (suc (suc (suc zero))) = alt airTag 3 (ext eventReportC) (λ p. bareAir (Event p)) (λ a. eventOf (a .kind)) (λ p. refl) (λ p. refl)
-airAlt (suc (suc (suc (suc zero)))) = alt airTag 4 negativeC (λ p. record { kind = Negative (p .0); list = p .1 }) (λ a. (negativeOf (a .kind), a .list)) (λ p. refl) (λ p. refl)
-airAlt (suc (suc (suc (suc (suc zero))))) = alt airTag 5 (ext noncomplianceC) (λ p. record { kind = Noncompliance (p .0); list = p .1 }) (λ a. (numberOf (a .kind), a .list)) (λ p. refl) (λ p. refl)
-airAlt (suc (suc (suc (suc (suc (suc zero)))))) = alt airTag 6 (ext ackedC) (λ p. bareAir (Periodic p)) (λ a. reportOf (a .kind)) (λ p. refl) (λ p. refl)
-airAlt (suc (suc (suc (suc (suc (suc (suc zero))))))) = alt airTag 7 (ext (num 0 7)) (λ n. bareAir (Positive n)) (λ a. numberOf (a .kind)) (λ p. refl) (λ p. refl)
-airAlt (suc (suc (suc (suc (suc (suc (suc (suc zero)))))))) = alt airTag 8 (ext (num 0 7)) (λ n. bareAir (Abort n)) (λ a. numberOf (a .kind)) (λ p. refl) (λ p. refl)
-airAlt (suc (suc (suc (suc (suc (suc (suc (suc (suc i))))))))) = unused airTag (suc (suc (suc (suc (suc (suc (suc (suc (suc i))))))))) (bareAir CancelEmergency)
+airAlt i = altOf airArms (bareAir CancelEmergency) i
 
 -- "Aircraft PDU*, 4-bit index"
 unfoldable pub airC : Codec AirPdu

@@ -1,9 +1,10 @@
 -- The message table of 01, ground PDUs: 01's line stands above each definition.
-use Prim.Native.Nat.{ℕ, zero, suc}
+use Prim.Native.Nat.{ℕ}
 use mathlib.Core.Path.{refl}
 use mathlib.Core.Bool.{true, false}
+use mathlib.Core.List.{List, [], _∷_}
 use Rattle.per.specs.Codec.{Codec}
-use Rattle.per.specs.Formats.{null, num, ext, mask, choice, Alt, alt, unused}
+use Rattle.per.specs.Formats.{null, num, ext, mask, choice, Alt, Arm, arm, altOf}
 use Rattle.pdu_parts.specs.declared.interval.Interval.{Interval}
 use Rattle.pdu_parts.specs.declared.periodic.Periodic.{Periodic}
 use Rattle.pdu.specs.declared.uplink.Ground.{Ground}
@@ -60,16 +61,20 @@ groundPeriod (Abort n) = noPeriod
 -- 3 demand contract*: 7 presence bits, as in the report; the first five NULL, the last two not carried;
 -- 4 event contract*: 11 presence bits; only waypoint change (fourth) and merit change (ninth) are carried; at least one must be present;
 -- 5 modify-emergency: an interval; 6 periodic contract*; 7 provider abort: reason*, 0..7
+abbrev pub groundArms : List (Arm groundTag)
+groundArms =
+    arm 0 null (λ u. CancelAll) (λ g. record {}) (λ p. refl) (λ p. refl)
+    ∷ arm 1 (ext (num 0 1)) CancelContract groundNumber (λ p. refl) (λ p. refl)
+    ∷ arm 2 null (λ u. CancelEmergencyAck) (λ g. record {}) (λ p. refl) (λ p. refl)
+    ∷ arm 3 (ext (mask REPORT-BITS DEMAND-CARRIED false)) DemandContract groundNumber (λ p. refl) (λ p. refl)
+    ∷ arm 4 (ext (mask EVENT-BITS EVENT-CARRIED true)) EventContract groundNumber (λ p. refl) (λ p. refl)
+    ∷ arm 5 intervalC ModifyEmergency groundInterval (λ p. refl) (λ p. refl)
+    ∷ arm 6 (ext periodicC) PeriodicContract groundPeriod (λ p. refl) (λ p. refl)
+    ∷ arm 7 (ext (num 0 7)) Abort groundNumber (λ p. refl) (λ p. refl)
+    ∷ []
+
 unfoldable pub groundAlt : (i : ℕ) → Alt groundTag i
-groundAlt zero = alt groundTag 0 null (λ u. CancelAll) (λ g. record {}) (λ p. refl) (λ p. refl)
-groundAlt (suc zero) = alt groundTag 1 (ext (num 0 1)) CancelContract groundNumber (λ p. refl) (λ p. refl)
-groundAlt (suc (suc zero)) = alt groundTag 2 null (λ u. CancelEmergencyAck) (λ g. record {}) (λ p. refl) (λ p. refl)
-groundAlt (suc (suc (suc zero))) = alt groundTag 3 (ext (mask REPORT-BITS DEMAND-CARRIED false)) DemandContract groundNumber (λ p. refl) (λ p. refl)
-groundAlt (suc (suc (suc (suc zero)))) = alt groundTag 4 (ext (mask EVENT-BITS EVENT-CARRIED true)) EventContract groundNumber (λ p. refl) (λ p. refl)
-groundAlt (suc (suc (suc (suc (suc zero))))) = alt groundTag 5 intervalC ModifyEmergency groundInterval (λ p. refl) (λ p. refl)
-groundAlt (suc (suc (suc (suc (suc (suc zero)))))) = alt groundTag 6 (ext periodicC) PeriodicContract groundPeriod (λ p. refl) (λ p. refl)
-groundAlt (suc (suc (suc (suc (suc (suc (suc zero))))))) = alt groundTag 7 (ext (num 0 7)) Abort groundNumber (λ p. refl) (λ p. refl)
-groundAlt (suc (suc (suc (suc (suc (suc (suc (suc i)))))))) = unused groundTag (suc (suc (suc (suc (suc (suc (suc (suc i)))))))) CancelAll
+groundAlt i = altOf groundArms CancelAll i
 
 -- "Ground PDU*, 3-bit index"
 unfoldable pub groundC : Codec Ground

@@ -1,10 +1,11 @@
 -- The message table of 01: intervals, and the parts of a periodic contract.
-use Prim.Native.Nat.{ℕ, zero, suc, _+_}
+use Prim.Native.Nat.{ℕ, _+_}
 use mathlib.Core.Path.{refl}
 use mathlib.Core.Bool.{Bool, true, false, not}
+use mathlib.Core.List.{List, [], _∷_}
 use lib.Dec.{eqb}
 use Rattle.per.specs.Codec.{Codec, unless}
-use Rattle.per.specs.Formats.{pair, only, when, num, mask, has, choice, Alt, alt, unused}
+use Rattle.per.specs.Formats.{pair, only, when, num, mask, has, choice, Alt, Arm, arm, altOf}
 use Rattle.pdu_parts.specs.declared.interval.Interval.{Interval}
 use Rattle.pdu_parts.specs.declared.interval.Interval.the-variants.{Seconds, Minutes}
 use Rattle.refusals.specs.Refusals.{DEFAULT-SENT}
@@ -19,10 +20,14 @@ abbrev pub intervalNumber : Interval → ℕ
 intervalNumber (Seconds n) = n
 intervalNumber (Minutes n) = n
 
+abbrev pub intervalArms : List (Arm intervalTag)
+intervalArms =
+    arm 0 (num 1 59) Seconds intervalNumber (λ n. refl) (λ n. refl)
+    ∷ arm 1 (num 1 120) Minutes intervalNumber (λ n. refl) (λ n. refl)
+    ∷ []
+
 abbrev pub intervalAlt : (i : ℕ) → Alt intervalTag i
-intervalAlt zero = alt intervalTag 0 (num 1 59) Seconds intervalNumber (λ n. refl) (λ n. refl)
-intervalAlt (suc zero) = alt intervalTag 1 (num 1 120) Minutes intervalNumber (λ n. refl) (λ n. refl)
-intervalAlt (suc (suc i)) = unused intervalTag (suc (suc i)) (Seconds 0)
+intervalAlt i = altOf intervalArms (Seconds 0) i
 
 unfoldable pub intervalC : Codec Interval
 intervalC = choice 1 intervalTag intervalAlt

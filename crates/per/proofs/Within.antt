@@ -1,11 +1,13 @@
 -- Which forms a codec reads: a law for each combinator, all found by `search forms`. Assumes nothing.
 use Prim.Native.Nat.{ℕ, zero, suc, _*_}
 use mathlib.Core.Path.{_≡_}
-use mathlib.Core.Bool.{Bool, true, false}
+use mathlib.Core.Bool.{Bool, true, false, cond}
+use mathlib.Core.List.{List, [], _∷_}
+use lib.Dec.{eqb}
 use native.Mathlib.Omega.{arith}
 use Rattle.per.specs.Codec.{Codec, Within}
 use Rattle.per.specs.Field.{Field}
-use Rattle.per.specs.Formats.{field, dep, via, only, absent, when, Alt, altCodec, neverCodec, choice, vec, list16}
+use Rattle.per.specs.Formats.{field, dep, via, only, absent, when, Alt, altCodec, neverCodec, Arm, armCodec, choice, vec, list16}
 
 pub in-field : {A : Type 0} (n : ℕ) (f : Field A) → Within n (field f)
 unfolding field
@@ -41,6 +43,20 @@ in-alternative n tag i c make get t g p = in-via _ _ _ _ _ _ p
 pub in-never : {E : Type 0} (n : ℕ) (z : E) → Within n (neverCodec z)
 unfolding neverCodec
 in-never n z = in-only _ _ _ (in-absent n z)
+
+-- what holds of each line of a table, and of what an unused index reads, holds at every index
+infixr 20 _then_
+pub data Each {E : Type 0} {tag : E → ℕ} (P : Codec E → Type 0) : List (Arm tag) → Type 0 where
+  all : Each P []
+  _then_ : {a : Arm tag} {more : List (Arm tag)} → P (a .codec) → Each P more → Each P (a ∷ more)
+
+pub each-arm : {E : Type 0} {tag : E → ℕ} (P : Codec E → Type 0) (arms : List (Arm tag)) (z : E) → Each P arms → P (neverCodec z) → (i : ℕ) → P (armCodec arms z i)
+each-arm P [] z all p i = p
+each-arm P (a ∷ more) z (x then xs) p i = go (eqb (a .index-is) i) (each-arm P more z xs p i)
+  where
+    go : (b : Bool) → P (armCodec more z i) → P (cond b (a .codec) (armCodec more z i))
+    go true r = x
+    go false r = r
 
 pub in-choices : {E : Type 0} (m top : ℕ) (tag : E → ℕ) (alts : (i : ℕ) → Alt tag i) → ((i : ℕ) → Within m (alts i .codec)) → Within m (choice top tag alts)
 unfolding choice

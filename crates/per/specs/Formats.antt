@@ -1,7 +1,7 @@
 -- The formats of 01's message table: each kind of field, and each way to put codecs together, as a codec with its laws.
 use Prim.Native.Nat.{ℕ, zero, suc, _+_, _-_, _*_, _^_}
 use mathlib.Core.Path.{_≡_, refl, sym, ap, _∙_}
-use mathlib.Core.Bool.{Bool, true, false, not, _&&_}
+use mathlib.Core.Bool.{Bool, true, false, cond, not, _&&_}
 use mathlib.Core.List.{List, [], _∷_}
 use native.Mathlib.Nat.{add-zero}
 use native.Mathlib.Omega.{arith}
@@ -247,11 +247,6 @@ pub alt-own : {E P : Type 0} (tag : E → ℕ) (i : ℕ) (c : Codec P) (make : P
 unfolding altCodec via
 alt-own tag i c make get t g e h = eqb-true (tag e) i (unless-true (eqb (tag e) i) 4 (first-0 (unless (eqb (tag e) i) OUT-OF-RANGE) (c .chk (get e)) h))
 
--- the alternative of index i
-abbrev pub alt : {E P : Type 0} (tag : E → ℕ) (i : ℕ) (c : Codec P) (make : P → E) (get : E → P)
-    → ((p : P) → tag (make p) ≡ i) → ((p : P) → get (make p) ≡ p) → Alt tag i
-alt tag i c make get t g = record { codec = altCodec tag i c make get t g; own = alt-own tag i c make get t g }
-
 -- an index that is not used
 unfoldable pub neverCodec : {E : Type 0} → E → Codec E
 neverCodec z = only (absent z) (λ e. ABOVE-RANGE)
@@ -261,9 +256,34 @@ pub never-own : {E : Type 0} (z : E) (n : ℕ) (e : E) → neverCodec z .chk e �
 unfolding neverCodec only absent
 never-own z n e h = absurd (omega arith)
 
--- the alternative of an index that is not used
-abbrev pub unused : {E : Type 0} (tag : E → ℕ) (i : ℕ) → E → Alt tag i
-unused tag i z = record { codec = neverCodec z; own = λ e h. never-own z (tag e) e h ∙ sym (never-own z i e h) }
+-- an alternative with its index, as a line of a table
+pub record Arm {E : Type 0} (tag : E → ℕ) : Type 0 where
+  pub index-is : ℕ
+  pub codec : Codec E
+  pub own : (e : E) → codec .chk e ≡ 0 → tag e ≡ index-is
+
+-- the values of tag i, which `make` makes of what c reads
+abbrev pub arm : {E P : Type 0} {tag : E → ℕ} (i : ℕ) (c : Codec P) (make : P → E) (get : E → P)
+    → ((p : P) → tag (make p) ≡ i) → ((p : P) → get (make p) ≡ p) → Arm tag
+arm {tag = tag} i c make get t g = record { index-is = i; codec = altCodec tag i c make get t g; own = alt-own tag i c make get t g }
+
+-- what an index reads: its line of the table, or, where none has it, nothing
+abbrev pub armCodec : {E : Type 0} {tag : E → ℕ} → List (Arm tag) → E → ℕ → Codec E
+armCodec [] z i = neverCodec z
+armCodec (a ∷ more) z i = cond (eqb (a .index-is) i) (a .codec) (armCodec more z i)
+
+-- and writes values of that index alone
+pub arm-own : {E : Type 0} {tag : E → ℕ} (arms : List (Arm tag)) (z : E) (i : ℕ) (e : E) → armCodec arms z i .chk e ≡ 0 → tag e ≡ i
+arm-own {tag = tag} [] z i e h = never-own z (tag e) e h ∙ sym (never-own z i e h)
+arm-own {tag = tag} (a ∷ more) z i e h = go (eqb (a .index-is) i) refl (arm-own more z i e) h
+  where
+    go : (b : Bool) → eqb (a .index-is) i ≡ b → (armCodec more z i .chk e ≡ 0 → tag e ≡ i) → cond b (a .codec) (armCodec more z i) .chk e ≡ 0 → tag e ≡ i
+    go true q r k = a .own e k ∙ eqb-true (a .index-is) i q
+    go false q r k = r k
+
+-- the alternatives of a table; z stands for the value of an index that is not used
+abbrev pub altOf : {E : Type 0} {tag : E → ℕ} → List (Arm tag) → E → (i : ℕ) → Alt tag i
+altOf arms z i = record { codec = armCodec arms z i; own = arm-own arms z i }
 
 -- an index of 0..top is a whole number of that range
 abbrev pub index : ℕ → Codec ℕ
