@@ -1,4 +1,3 @@
 pub mod Twos
 pub mod Puts
-pub mod UplinkOthers
-pub mod DownlinkOthers
+pub mod Others

@@ -3,7 +3,7 @@
 -- 4 to 24 a report, as flatfix has it. What a kind has not is 0.
 use mathlib.Core.Bool.{cond}
 use mathlib.Core.List.{List, [], _∷_}
-use Prim.Native.Nat.{ℕ, zero, suc}
+use Prim.Native.Nat.{ℕ}
 use lib.Dec.{eqb}
 use lib.ListN.{getD}
 use Rattle.pdu_parts.specs.Lists.{noList}
@@ -65,20 +65,21 @@ abbrev pub negativeAt : List ℕ → NegativeAck
 negativeAt f = record { request = getD f A-WHAT 0; reason = getD f A-DETAIL 0 }
 
 -- by the index of 01's table. A kind over 8 gives an abort of reason 8, which the writer refuses with 5
-abbrev pub kindBy : ℕ → List ℕ → Air
-kindBy zero f = CancelEmergency
-kindBy (suc zero) f = Demand (ackedAt f)
-kindBy (suc (suc zero)) f = Emergency (urgentAt f)
-kindBy (suc (suc (suc zero))) f = Event (eventAt f)
-kindBy (suc (suc (suc (suc zero)))) f = Negative (negativeAt f)
-kindBy (suc (suc (suc (suc (suc zero))))) f = Noncompliance (getD f A-WHAT 0)
-kindBy (suc (suc (suc (suc (suc (suc zero)))))) f = Periodic (ackedAt f)
-kindBy (suc (suc (suc (suc (suc (suc (suc zero))))))) f = Positive (getD f A-WHAT 0)
-kindBy (suc (suc (suc (suc (suc (suc (suc (suc zero)))))))) f = Abort (getD f A-WHAT 0)
-kindBy (suc (suc (suc (suc (suc (suc (suc (suc (suc k))))))))) f = Abort 8
+abbrev pub airKinds : List ℕ → List Air
+airKinds f =
+    CancelEmergency
+    ∷ Demand (ackedAt f)
+    ∷ Emergency (urgentAt f)
+    ∷ Event (eventAt f)
+    ∷ Negative (negativeAt f)
+    ∷ Noncompliance (getD f A-WHAT 0)
+    ∷ Periodic (ackedAt f)
+    ∷ Positive (getD f A-WHAT 0)
+    ∷ Abort (getD f A-WHAT 0)
+    ∷ []
 
 unfoldable pub kindAt : List ℕ → Air
-kindAt f = kindBy (getD f A-KIND 0) f
+kindAt f = getD (airKinds f) (getD f A-KIND 0) (Abort 8)
 
 -- the list, for the two kinds that carry one
 abbrev pub listedAt : List ℕ → List ℕ → Listed

@@ -56,16 +56,18 @@ periodicAt f =
       weather = getD f G-WEATHER 0;
     }
 
-abbrev pub groundBy : ℕ → List ℕ → Ground
-groundBy zero f = CancelAll
-groundBy (suc zero) f = CancelContract (getD f G-WHAT 0)
-groundBy (suc (suc zero)) f = CancelEmergencyAck
-groundBy (suc (suc (suc zero))) f = DemandContract (getD f G-WHAT 0)
-groundBy (suc (suc (suc (suc zero)))) f = EventContract (getD f G-WHAT 0)
-groundBy (suc (suc (suc (suc (suc zero))))) f = ModifyEmergency (intervalOf (getD f G-SCALE 0) (getD f G-INTERVAL 0))
-groundBy (suc (suc (suc (suc (suc (suc zero)))))) f = PeriodicContract (periodicAt f)
-groundBy (suc (suc (suc (suc (suc (suc (suc zero))))))) f = Abort (getD f G-WHAT 0)
-groundBy (suc (suc (suc (suc (suc (suc (suc (suc k)))))))) f = Abort 8
+-- by the index of 01's table
+abbrev pub groundKinds : List ℕ → List Ground
+groundKinds f =
+    CancelAll
+    ∷ CancelContract (getD f G-WHAT 0)
+    ∷ CancelEmergencyAck
+    ∷ DemandContract (getD f G-WHAT 0)
+    ∷ EventContract (getD f G-WHAT 0)
+    ∷ ModifyEmergency (intervalOf (getD f G-SCALE 0) (getD f G-INTERVAL 0))
+    ∷ PeriodicContract (periodicAt f)
+    ∷ Abort (getD f G-WHAT 0)
+    ∷ []
 
 unfoldable pub groundAt : List ℕ → Ground
-groundAt f = groundBy (getD f G-KIND 0) f
+groundAt f = getD (groundKinds f) (getD f G-KIND 0) (Abort 8)

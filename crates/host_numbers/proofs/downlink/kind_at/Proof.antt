@@ -2,7 +2,7 @@ use mathlib.Core.Path.{sym, _∙_}
 use native.Mathlib.Omega.{arith}
 use Rattle.per.proofs.Compose.{climb}
 use Rattle.host_numbers.specs.DownlinkNumbers.{kindAt}
-use Rattle.host_numbers.proofs.DownlinkOthers.{other-kind}
+use Rattle.host_numbers.proofs.Others.{other-air}
 use borrow.Author.Needs.{needs}
 use Rattle.host_numbers.proofs.downlink.kind_at.Statement.{statement}
 use Rattle.host_numbers.proofs.downlink.kind_at.Tie as tie
@@ -75,7 +75,7 @@ unfolding kindAt
 returns-10 c =
     let k = c .before .number in
     let r = c .match .rest in
-    rw (← k .ensures) (other-kind (k .result) _ (climb (k .result) 8 (climb (k .result) 7 (climb (k .result) 6 (climb (k .result) 5 (climb (k .result) 4 (climb (k .result) 3 (climb (k .result) 2 (climb (k .result) 1 (climb (k .result) 0 (omega arith) (r .0 .0 .0 .0 .0 .0 .0 .0 .1)) (r .0 .0 .0 .0 .0 .0 .0 .1)) (r .0 .0 .0 .0 .0 .0 .1)) (r .0 .0 .0 .0 .0 .1)) (r .0 .0 .0 .0 .1)) (r .0 .0 .0 .1)) (r .0 .0 .1)) (r .0 .1)) (r .1)))
+    rw (← k .ensures) (other-air (k .result) _ (climb (k .result) 8 (climb (k .result) 7 (climb (k .result) 6 (climb (k .result) 5 (climb (k .result) 4 (climb (k .result) 3 (climb (k .result) 2 (climb (k .result) 1 (climb (k .result) 0 (omega arith) (r .0 .0 .0 .0 .0 .0 .0 .0 .1)) (r .0 .0 .0 .0 .0 .0 .0 .1)) (r .0 .0 .0 .0 .0 .0 .1)) (r .0 .0 .0 .0 .0 .1)) (r .0 .0 .0 .0 .1)) (r .0 .0 .0 .1)) (r .0 .0 .1)) (r .0 .1)) (r .1)))
 
 pub kind-at-spec : {M : Type 1} → statement M
 kind-at-spec =

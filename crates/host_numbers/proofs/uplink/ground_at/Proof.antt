@@ -2,7 +2,7 @@ use mathlib.Core.Path.{sym, _∙_}
 use native.Mathlib.Omega.{arith}
 use Rattle.per.proofs.Compose.{climb}
 use Rattle.host_numbers.specs.UplinkNumbers.{groundAt}
-use Rattle.host_numbers.proofs.UplinkOthers.{other-ground}
+use Rattle.host_numbers.proofs.Others.{other-ground}
 use borrow.Author.Needs.{needs}
 use Rattle.host_numbers.proofs.uplink.ground_at.Statement.{statement}
 use Rattle.host_numbers.proofs.uplink.ground_at.Tie as tie
@@ -62,7 +62,7 @@ unfolding groundAt
 returns-9 c =
     let k = c .before .before .number in
     let r = c .match .rest in
-    rw (← k .ensures) (other-ground (k .result) _ (climb (k .result) 7 (climb (k .result) 6 (climb (k .result) 5 (climb (k .result) 4 (climb (k .result) 3 (climb (k .result) 2 (climb (k .result) 1 (climb (k .result) 0 (omega arith) (r .0 .0 .0 .0 .0 .0 .0 .1)) (r .0 .0 .0 .0 .0 .0 .1)) (r .0 .0 .0 .0 .0 .1)) (r .0 .0 .0 .0 .1)) (r .0 .0 .0 .1)) (r .0 .0 .1)) (r .0 .1)) (r .1)))
+    rw (← k .ensures) (other-ground (k .result) (c .before .before .before .before .args .f .now) (climb (k .result) 7 (climb (k .result) 6 (climb (k .result) 5 (climb (k .result) 4 (climb (k .result) 3 (climb (k .result) 2 (climb (k .result) 1 (climb (k .result) 0 (omega arith) (r .0 .0 .0 .0 .0 .0 .0 .1)) (r .0 .0 .0 .0 .0 .0 .1)) (r .0 .0 .0 .0 .0 .1)) (r .0 .0 .0 .0 .1)) (r .0 .0 .0 .1)) (r .0 .0 .1)) (r .0 .1)) (r .1)))
 
 pub ground-at-spec : {M : Type 1} → statement M
 ground-at-spec =

@@ -1,6 +1,6 @@
 use native.Mathlib.Omega.{arith}
 use Rattle.per.proofs.Compose.{climb}
-use Rattle.host_numbers.proofs.UplinkOthers.{other-scale}
+use Rattle.host_numbers.proofs.Others.{other-scale}
 use Rattle.host_numbers.proofs.uplink.interval_of.Statement.{statement}
 use Rattle.host_numbers.proofs.uplink.interval_of.Tie as tie
 
