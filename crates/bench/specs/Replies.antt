@@ -10,7 +10,7 @@ use Rattle.text.specs.Text.{pick, wordEnd}
 use Rattle.text.specs.Numbers.{nineOf}
 use Rattle.text.specs.Page.{Page, Writes}
 use Rattle.text.specs.declared.digits.Nine.{Nine}
-use Rattle.link.specs.declared.record.Link.{Link}
+use Rattle.ground_answer.specs.declared.record.Link.{Link}
 use Rattle.ground_answer.specs.Fresh.{opened}
 use Rattle.ground.specs.Runs.{answered}
 use Rattle.ground_answer.specs.declared.answer.Answer.{Answer}

@@ -7,14 +7,15 @@ use lib.Dec.{eqb, ltb}
 use lib.ListN.{length, take, replicate}
 use Rattle.text.specs.Letters.{ascii}
 use Rattle.text.specs.Text.{pick, decimal}
-use Rattle.ground_answer.specs.Fresh.{fresh}
+use Rattle.link.specs.Names.{timers}
+use Rattle.ground_answer.specs.Record.{fresh}
 use Rattle.bench.specs.Replies.{Reply, lineReply}
 use Rattle.bench.specs.declared.reply.Setup.{Setup}
 use Rattle.bench.specs.declared.trace.Trace.{Trace}
 
 -- a box before its settings
 unfoldable pub unset : Setup
-unset = record { ready = false; link = fresh (replicate 9 0) }
+unset = record { ready = false; link = fresh (replicate timers 0) }
 
 -- the numbers of lines stop at the largest that 64 bits hold
 unfoldable pub bumped : ℕ → ℕ

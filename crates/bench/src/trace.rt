@@ -1,7 +1,8 @@
 // The trace of a script that comes in pieces: lines are gathered octet by octet, and each is answered at its end.
 use crate::reply::Setup;
 use crate::reply::answer_line;
-use link::record::Link;
+use ground_answer::fresh::idle_link;
+use link::moves::TIMERS;
 use text::least;
 use text::put_byte;
 use text::put_decimal;
@@ -96,12 +97,7 @@ pub fn begin(out: &mut [u8]) -> Trace
     ensures { λ r. ⌜ (r .len ≡ 0) × (r .number ≡ 0) × (r .setup ≡ unset) × Writes (page (now (out .entry)) 0) firstText (page (now (out .exit)) (r .at)) ⌝ }
 {
     let at = put_text(out, 0, b"adsc trace 1\n");
-    let link = Link {
-        setting: [0; 9],
-        left: [0; 9],
-        at: [0; 4],
-        li: 0,
-    };
+    let link = idle_link([0; TIMERS]);
     Trace {
         len: 0,
         number: 0,

@@ -1,234 +1,258 @@
--- Demand 3, over every sequence of calls from a fresh link. Assumes nothing.
-use mathlib.Core.Path.{_≡_, refl, subst, sym, ap, _∙_}
+-- The ground link is a lawful side, so both sentences of demand 3 hold of it, over every sequence of calls from a fresh link. Assumes nothing.
+use mathlib.Core.Path.{_≡_, refl, sym, subst, ap, _∙_}
 use mathlib.Core.Bool.{Bool, true, false, not}
-use mathlib.Core.List.{List, [], _∷_, _++_, append-nil}
-use Prim.Native.Nat.{ℕ, _+_, _-_, _<_, _≤_}
+use mathlib.Core.List.{List, [], _∷_, _++_}
+use Prim.Native.Nat.{ℕ, _+_, _<_, _≤_}
 use native.Mathlib.Omega.{arith}
-use native.Mathlib.Nat.{add-zero}
-use lib.Dec.{T, leb, ltb, eqb, leb→le, nleb→lt, eqb→eq, lit<}
-use lib.ListN.{length, getD, replicate}
-use borrow.Author.Tests.{eqb-true, lt-ltb, le-leb, not-true}
-use Rattle.ground_tables.specs.Tests.{both, either, pick, below}
-use Rattle.ground_tables.specs.Names.{EC, ACTIVE, EC1, EC2}
-use Rattle.ground_tables.specs.Watch.{runs}
-use Rattle.ground_tables.specs.Moves.{moveOf}
-use Rattle.ground_tables.specs.Acts.{acts, one}
-use Rattle.ground_tables.specs.declared.decide.Move.{Move}
-use Rattle.ground_tables.specs.declared.acts.Acts.{Acts}
-use Rattle.ground_tables.proofs.Laws.{both-left, both-right, below-at, no-true}
-use Rattle.link.specs.Record.{LI-IDLE, LI-END, good, timerGood, timerOk, statesOk, liOk, idle, quiet, withLi}
-use Rattle.link.specs.Clock.{due, notDue, later}
-use Rattle.link.specs.Step.{actsOf, moved}
-use Rattle.link.specs.declared.record.Link.{Link}
-use Rattle.link.proofs.Laws.{below-fails}
-use Rattle.ground.proofs.Fits.{event-no-clock}
-use Rattle.ground.proofs.Keeps.{Shaped, Sound, good-states, good-timer, timer-parts, left-after, left-later, quiet-good, quiet-shaped, later-good, later-shaped, li-good, li-shaped, went-sound}
-use Rattle.ground_answer.specs.Answers.{tells}
+use lib.Dec.{T, eqb, lit≤, lit<}
+use lib.ListN.{length, getD, set, length-append}
+use lib.Seq.{getD-set-same, getD-set-other}
+use borrow.Author.Tests.{eq-eqb, eqb-true, eqb-false, le-leb}
+use Rattle.link.specs.Tests.{both, either, below}
+use Rattle.link.specs.Names.{timers, EC, LI}
+use Rattle.link.specs.Watch.{runs, settingOk}
+use Rattle.link.specs.Acts.{acts, pushedAll}
+use Rattle.link.specs.Clock.{notDue}
+use Rattle.link.specs.Step.{actsOf, performed, begun, added, stopped, restAt}
+use Rattle.link.specs.declared.moves.Move.{Move}
+use Rattle.link.proofs.Laws.{both-T, eq-T, T-eq}
+use Rattle.sides.specs.Tables.{balanced}
+use Rattle.sides.specs.Runs.{View, Sound, Part, stepped, steps, saidOf, Fit, Fits, rested, Does, waits, plays, stops, after, total, Untouched, Watched}
+use Rattle.sides.specs.Runs as runs-of
+use Rattle.sides.proofs.Fits.{OwnsFit, own-moves-fit}
+use Rattle.sides.proofs.Keeps.{good-states, stepped-sound, rested-sound}
+use Rattle.sides.proofs.Stops.{short}
+use Rattle.sides.proofs.Ways.{played-said, first-fit, first-sound, second-goes, second-fit}
+use Rattle.sides.proofs.Demand3 as sides
+use Rattle.sides.proofs.Demand3.{Lawful}
+use Rattle.ground_tables.specs.Names.{ACTIVE, EC1, EC2, LI-IDLE, LI-START, LI-ACTIVE, LI-END}
+use Rattle.ground_tables.specs.Moves.{liTo, liEnd, liOver}
+use Rattle.ground_tables.specs.Watch.{groundWatch}
+use Rattle.ground_tables.specs.Tables.{idle, liIs, liBusy, groundAlso, tops, groundTables}
+use Rattle.ground_tables.proofs.Fitting.{ground-fits}
+use Rattle.ground_answer.specs.Record.{loads, view, good, fresh, followed, turned, moveAt, went}
+use Rattle.ground_answer.specs.declared.record.Link.{Link}
+use Rattle.ground_answer.specs.Answers.{DATA-REQUEST, END-REQUEST, LATE}
 use Rattle.ground_answer.specs.Aborts.{aborted, closed}
-use Rattle.ground_answer.specs.Fresh.{settingOk, fresh}
-use Rattle.ground_answer.specs.Clock.{elapsed}
+use Rattle.ground_answer.specs.Clock.{waited, elapsed}
+use Rattle.ground.specs.Requests.{cancelled}
 use Rattle.ground.specs.Arrivals.{lateData}
-use Rattle.ground.specs.Runs.{stopsOf, answered, Made, reply, after, member, touches, seconds, total, Untouched, Watched}
-use Rattle.ground_answer.specs.declared.answer.Answer.{Answer}
+use Rattle.ground.specs.Endings.{over}
+use Rattle.ground.specs.Runs.{answered, Made, reply, ground}
 use Rattle.ground.specs.declared.call.Call.the-variants.{Elapse}
-use Rattle.ground_answer.proofs.Laws.{fresh-good}
-use Rattle.ground.proofs.Every.{eq-T, T-eq, Kinds, every}
-use Rattle.ground.proofs.Stops.{closed-list, abort-list, member-left, member-right, member-one, stops-member}
+use Rattle.ground.proofs.Keeps.{Fine, good-settings, fine-sound, make-fine, fine-loads, fresh-fine}
+use Rattle.ground.proofs.Stops.{closed-list, abort-list, cancel-list}
+use Rattle.ground.proofs.Every.{Way, starts, stays-open, Kinds, every}
 
--- LI's own rule, of a good link
-good-li : (l : Link) → T (good l) → T (liOk (l .li) (l .at))
-unfolding good
-good-li l g = both-left (liOk (l .li) (l .at)) (below 9 (timerGood l)) (both-right (statesOk (l .at)) (both (liOk (l .li) (l .at)) (below 9 (timerGood l))) g)
+-- a move of the link, and the entry for what it sends
+abbrev part : Link → Move → ℕ → Part
+part l m send = record { move = m; send = send; most = loads l }
 
-li-sound : (l : Link) (k : ℕ) → Sound l → T (liOk k (l .at)) → Sound (withLi l k)
-li-sound l k s h = record { shape = li-shaped l k (s .shape); fine = li-good l k (s .fine) h }
+-- LI goes to k, then the tables' move, and then the end request
+abbrev wentParts : Link → ℕ → ℕ → ℕ → List Part
+wentParts l k e entry = part l (liTo k) 0 ∷ part l (moveAt l k e) entry ∷ []
 
-quiet-sound : (l : Link) → Sound l → Sound (quiet l)
-quiet-sound l s = record { shape = quiet-shaped l (s .shape); fine = quiet-good l (s .fine) }
+abbrev endedParts : Link → ℕ → List Part
+endedParts l e = part l (liTo LI-ACTIVE) 0 ∷ part l (moveAt l LI-ACTIVE e) DATA-REQUEST ∷ part l liEnd END-REQUEST ∷ []
 
--- every call leaves a good link good
-sound-kinds : (l : Link) → Sound l → Kinds l (λ s a. Sound (a .link))
-unfolding aborted closed quiet lateData liOk
-sound-kinds l s =
+-- LI's own move to a state says nothing
+li-silent : (k : ℕ) → length (actsOf (liTo k) 0) ≡ 0
+unfolding actsOf
+li-silent k = refl
+
+-- LI at k
+li-set : (at : List ℕ) (k : ℕ) → length at ≡ 5 → getD (set at LI k) LI 0 ≡ k
+li-set at k n = getD-set-same at LI k 0 (omega arith)
+
+busy-set : (at : List ℕ) (k : ℕ) → length at ≡ 5 → either (eqb k LI-START) (eqb k LI-ACTIVE) ≡ true → T (liBusy (set at LI k))
+unfolding liBusy
+busy-set at k n h = subst (λ (x : ℕ). T (either (eqb x LI-START) (eqb x LI-ACTIVE))) (sym (li-set at k n)) (eq-T _ h)
+
+idle-rest : T (both (liIs (restAt LI-ACTIVE) LI-ACTIVE) (idle (restAt LI-ACTIVE)))
+unfolding restAt idle
+idle-rest = tt
+
+not-eq : (x : Bool) → T (not x) → x ≡ false
+not-eq true t = absurd t
+not-eq false t = refl
+
+-- no call changes a setting
+pub settings-kinds : (l : Link) → Kinds l (λ s a. a .link .setting ≡ l .setting)
+unfolding aborted closed cancelled lateData over waited followed
+settings-kinds l =
     record {
-      stays = λ n h. s;
-      aborts = λ n k g. quiet-sound l s;
-      closes = λ e g h. li-sound (quiet l) (e .li) (quiet-sound l s) h;
-      goes = λ k e entry x g any f. went-sound l k e any s f;
-      ends = λ e x g f i. li-sound (moved (withLi l 2) (moveOf (l .at) e)) LI-END (went-sound l 2 e (λ at. tt) s f) (eq-T (idle (moved (withLi l 2) (moveOf (l .at) e) .at)) i);
-      waits = λ n g d. record { shape = later-shaped l n (s .shape); fine = later-good l n g d };
-      turns = λ g e. li-sound l LI-IDLE s (subst (λ (k : ℕ). T (liOk k (l .at))) (eqb-true (l .li) LI-END e) (good-li l g));
-      late = λ g. s;
+      stays = λ n h. refl;
+      aborts = λ n s g. refl;
+      closes = λ entry reason g. refl;
+      cancels = λ g. refl;
+      goes = λ k e entry s g w h. refl;
+      ends = λ e s g b h i. refl;
+      waits = λ n g d. refl;
+      turns = λ g h. refl;
+      late = λ g. refl;
     }
 
-pub after-sound : (l : Link) (cs : List Made) → Sound l → Sound (after l cs)
-unfolding after
-after-sound l [] s = s
-after-sound l (c ∷ cs) s = after-sound (reply l c .link) cs (every l (λ n a. Sound (a .link)) (sound-kinds l s) c)
+module _ (l : Link) (f : Fine l) where
+  abbrev v : View
+  v = view l
 
-pub fresh-sound : (s : List ℕ) → length s ≡ 9 → T (below 9 (settingOk s)) → Sound (fresh s)
-unfolding fresh
-fresh-sound s e h = record { shape = record { settings = e; lefts = refl; states = refl }; fine = subst T (sym (fresh-good s)) h }
+  sound : Sound groundTables v
+  sound = fine-sound l f
 
-timer-on : (run : Bool) (setting left : ℕ) → T (timerOk run setting left) → run ≡ true → (1 ≤ left) × (left ≤ setting)
-timer-on run setting left k e =
-    let h = timer-parts run setting left k .2 in
-    let u = subst (λ (b : Bool). T (pick b (both (leb 1 left) (leb left setting)) (eqb left 0))) e h in
-    (leb→le 1 left (both-left (leb 1 left) (leb left setting) u), leb→le left setting (both-right (leb 1 left) (leb left setting) u))
+  own : OwnsFit groundTables (l .at) (groundTables .owns)
+  own = own-moves-fit groundTables ground-fits (l .at) (f .states) (good-states groundTables v sound)
 
-timer-off : (run : Bool) (setting left : ℕ) → T (timerOk run setting left) → run ≡ false → left ≡ 0
-timer-off run setting left k e =
-    eqb→eq left 0 (subst (λ (b : Bool). T (pick b (both (leb 1 left) (leb left setting)) (eqb left 0))) e (timer-parts run setting left k .2))
+  -- LI's own move goes
+  li-balanced : (k : ℕ) → Way (l .at) k → T (balanced groundTables (l .at) (liTo k))
+  unfolding groundTables
+  li-balanced k (starts h) = own .0 h
+  li-balanced k (stays-open h) = own .1 .0 h
 
-watched : (l : Link) → Sound l → (t : ℕ) → t < 9 → Watched l t
-unfolding timerGood
-watched l s t h =
-    let k = good-timer l (s .fine) t h in
+  way-busy : (k : ℕ) → Way (l .at) k → either (eqb k LI-START) (eqb k LI-ACTIVE) ≡ true
+  way-busy k (starts h) = refl
+  way-busy k (stays-open h) = refl
+
+  fit-li : (k : ℕ) → Way (l .at) k → Fit groundTables v (part l (liTo k) 0)
+  fit-li k w = first-fit groundTables ground-fits v sound (fine-loads l f) (liTo k) (li-balanced k w)
+
+  sound-li : (k : ℕ) → Way (l .at) k → Sound groundTables (stepped v (part l (liTo k) 0))
+  sound-li k w = first-sound groundTables ground-fits v sound (fine-loads l f) (liTo k) (li-balanced k w)
+
+  may-move : (k : ℕ) → Way (l .at) k → T (groundTables .open-to (set (l .at) LI k))
+  unfolding groundTables
+  may-move k w = busy-set (l .at) k (f .states) (way-busy k w)
+
+  -- the table's move then goes, and it does not move LI
+  move-also : (k e : ℕ) → Way (l .at) k → eqb (moveAt l k e .fate) 0 ≡ true → T (groundAlso (set (l .at) LI k) e (moveAt l k e))
+  unfolding moveAt groundTables
+  move-also k e w g = second-goes groundTables ground-fits v sound (fine-loads l f) (liTo k) (li-balanced k w) (may-move k w) e g .1
+
+  fit-move : (k e entry : ℕ) → Way (l .at) k → eqb (moveAt l k e .fate) 0 ≡ true → Fit groundTables (stepped v (part l (liTo k) 0)) (part l (moveAt l k e) entry)
+  unfolding moveAt groundTables
+  fit-move k e entry w g =
+      second-fit groundTables ground-fits v sound (fine-loads l f) (liTo k) (li-balanced k w) (may-move k w) e g entry (loads l) (fine-loads l f) (λ t lt q. refl)
+
+  went-room : (k e entry : ℕ) → length (saidOf (wentParts l k e entry)) + 0 ≤ 8
+  went-room k e entry =
+      let m = moveAt l k e in
+      omega (arith, li-silent k, short m entry, length-append (actsOf (liTo k) 0) (actsOf m entry ++ []), length-append (actsOf m entry) [])
+
+  -- the end request, where all modules are IDLE then
+  sound-move : (k e entry : ℕ) → Way (l .at) k → eqb (moveAt l k e .fate) 0 ≡ true → Sound groundTables (steps v (wentParts l k e entry))
+  sound-move k e entry w g = stepped-sound groundTables ground-fits _ _ (sound-li k w) (fit-move k e entry w g)
+
+  end-may : (e : ℕ) → T (liBusy (l .at)) → eqb (moveAt l LI-ACTIVE e .fate) 0 ≡ true → T (idle (went l LI-ACTIVE e DATA-REQUEST .at))
+      → T (both (liIs (set (set (l .at) LI LI-ACTIVE) (moveAt l LI-ACTIVE e .who) (moveAt l LI-ACTIVE e .to)) LI-ACTIVE) (idle (set (set (l .at) LI LI-ACTIVE) (moveAt l LI-ACTIVE e .who) (moveAt l LI-ACTIVE e .to))))
+  unfolding went turned performed begun groundAlso
+  end-may e b g i =
+      let m = moveAt l LI-ACTIVE e in
+      let at₁ = set (l .at) LI LI-ACTIVE in
+      let other = not-eq (eqb LI (m .who)) (move-also LI-ACTIVE e (stays-open b) g) in
+      let li = getD-set-other at₁ (m .who) LI (m .to) 0 (eqb-false LI (m .who) other) ∙ li-set (l .at) LI-ACTIVE (f .states) in
+      both-T (liIs (set at₁ (m .who) (m .to)) LI-ACTIVE) _ (eq-T _ (eq-eqb _ LI-ACTIVE li)) i
+
+  fit-end : (e : ℕ) → T (liBusy (l .at)) → eqb (moveAt l LI-ACTIVE e .fate) 0 ≡ true → T (idle (went l LI-ACTIVE e DATA-REQUEST .at))
+      → Fit groundTables (steps v (wentParts l LI-ACTIVE e DATA-REQUEST)) (part l liEnd END-REQUEST)
+  unfolding stepped groundTables
+  fit-end e b g i =
+      let s = sound-move LI-ACTIVE e DATA-REQUEST (stays-open b) g in
+      let w = steps v (wentParts l LI-ACTIVE e DATA-REQUEST) in
+      record {
+        moves = own-moves-fit groundTables ground-fits (w .at) (s .states) (good-states groundTables w s) .1 .1 .0 (end-may e b g i);
+        loads = fine-loads l f;
+        steady = λ t lt q. refl;
+      }
+
+  ended-room : (e : ℕ) → length (saidOf (endedParts l e)) + 0 ≤ 8
+  ended-room e =
+      let m = moveAt l LI-ACTIVE e in
+      omega (arith, li-silent LI-ACTIVE, short m DATA-REQUEST, short liEnd END-REQUEST, length-append (actsOf (liTo LI-ACTIVE) 0) (actsOf m DATA-REQUEST ++ (actsOf liEnd END-REQUEST ++ [])), length-append (actsOf m DATA-REQUEST) (actsOf liEnd END-REQUEST ++ []), length-append (actsOf liEnd END-REQUEST) [])
+
+  over-fits : T (liIs (l .at) LI-END) → Fits groundTables v (part l liOver 0 ∷ [])
+  unfolding groundTables
+  over-fits h = (record { moves = own .1 .1 .1 .0 h; loads = fine-loads l f; steady = λ t lt e. refl }, tt)
+
+  over-room : length (saidOf (part l liOver 0 ∷ [])) + 0 ≤ 8
+  over-room = omega (arith, short liOver 0, length-append (actsOf liOver 0) [])
+
+  -- where everything rests, before the end request
+  cancel-fits : Fits groundTables (rested LI-ACTIVE (loads l)) (part l liEnd END-REQUEST ∷ [])
+  unfolding rested restAt groundTables tops
+  cancel-fits =
+      let s = rested-sound groundTables ground-fits LI-ACTIVE (loads l) tt (lit≤ tt) (fine-loads l f) in (
+        record {
+          moves = own-moves-fit groundTables ground-fits (restAt LI-ACTIVE) (s .states) (good-states groundTables (rested LI-ACTIVE (loads l)) s) .1 .1 .0 idle-rest;
+          loads = fine-loads l f;
+          steady = λ t lt q. refl;
+        },
+        tt,
+      )
+
+  -- every call does what the machinery can
+  does-kinds : Kinds l (λ s a. Does groundTables v s (a .said .acts) (view (a .link)))
+  unfolding aborted closed cancelled lateData over waited followed loads went turned pushedAll actsOf stepped performed begun added stopped rested runs-of.waited groundTables tops
+  does-kinds =
+      record {
+        stays = λ n h. plays [] [] tt refl refl refl;
+        aborts = λ n s g. stops LI-IDLE (loads l) [] (4 ∷ 6 ∷ []) tt (lit≤ tt) (fine-loads l f) tt (abort-list l n f) refl;
+        closes = λ entry reason g. stops LI-IDLE (loads l) [] (entry ∷ []) tt (lit≤ tt) (fine-loads l f) tt (closed-list l entry reason f) refl;
+        cancels = λ g. stops LI-ACTIVE (loads l) (part l liEnd END-REQUEST ∷ []) [] tt (lit≤ tt) (fine-loads l f) cancel-fits (cancel-list l f) refl;
+        goes = λ k e entry s g w h. plays (wentParts l k e entry) [] (fit-li k w, (fit-move k e entry w h, tt)) refl (played-said (l .at) (l .left) (wentParts l k e entry) [] (went-room k e entry)) refl;
+        ends = λ e s g b h i. plays (endedParts l e) [] (fit-li LI-ACTIVE (stays-open b), (fit-move LI-ACTIVE e DATA-REQUEST (stays-open b) h, (fit-end e b h i, tt))) refl (played-said (l .at) (l .left) (endedParts l e) [] (ended-room e)) refl;
+        waits = λ n g d. waits d refl refl;
+        turns = λ g h. plays (part l liOver 0 ∷ []) [] (over-fits h) refl (played-said (l .at) (l .left) (part l liOver 0 ∷ []) [] over-room) refl;
+        late = λ g. plays [] (LATE ∷ []) tt refl (played-said (l .at) (l .left) [] (LATE ∷ []) (lit≤ tt)) refl;
+      }
+
+  keeps-fine : (c : Made) → Sound groundTables (view (reply l c .link)) → Fine (reply l c .link)
+  keeps-fine c s =
+      let e = every l (λ n a. a .link .setting ≡ l .setting) (settings-kinds l) c in
+      make-fine (reply l c .link) (ap length e ∙ f .settings) (subst (λ (x : List ℕ). T (below timers (settingOk x))) (sym e) (good-settings l f)) s
+
+  -- an elapse at which a timer is due is abort 4
+  expires : (n : ℕ) → n ≤ 86400 → below timers (notDue n (l .left)) ≡ false → (octets : List ℕ) → answered l (Elapse n) octets ≡ aborted l 4
+  unfolding answered elapsed
+  expires n le d octets = rw (T-eq (good l) (f .fine), le-leb n 86400 le, d)
+
+unfoldable lawful : Lawful ground
+lawful =
     record {
-      runs-left = timer-on (runs t (l .at)) (getD (l .setting) t 0) (getD (l .left) t 0) k;
-      else-none = timer-off (runs t (l .at)) (getD (l .setting) t 0) (getD (l .left) t 0) k;
+      fit = ground-fits;
+      Fine = Fine;
+      sound = fine-sound;
+      keeps = λ l c f s. keeps-fine l f c s;
+      does = λ l c f. every l (λ s a. Does groundTables (view l) s (a .said .acts) (view (a .link))) (does-kinds l f) c;
+      expires = λ l n f le d. expires l f n le d [];
     }
+
+pub after-fine : (l : Link) (cs : List Made) → Fine l → Fine (after ground l cs)
+unfolding lawful
+after-fine l cs f = sides.after-fine ground lawful l cs f
 
 -- "After any sequence of calls from a fresh link with good settings, the running timers are exactly those the watch table names for the present states, each
 -- with at least one second left and no more than its setting."
-pub demand3-first : (s : List ℕ) → length s ≡ 9 → T (below 9 (settingOk s)) → (cs : List Made) (t : ℕ) → t < 9 → Watched (after (fresh s) cs) t
-demand3-first s e h cs t lt = watched (after (fresh s) cs) (after-sound (fresh s) cs (fresh-sound s e h)) t lt
+pub demand3-first : (s : List ℕ) → length s ≡ timers → T (below timers (settingOk s)) → (cs : List Made) (t : ℕ) → t < timers → Watched ground (after ground (fresh s) cs) t
+unfolding lawful
+demand3-first s e h = sides.demand3-first ground lawful (fresh s) (fresh-fine s e h)
+
+-- in EC-ACTIVE no timer of EC runs
+event-off : (at : List ℕ) → getD at EC 0 ≡ ACTIVE → (runs groundWatch EC1 at ≡ false) × (runs groundWatch EC2 at ≡ false)
+unfolding runs groundWatch
+event-off at e = (rw e, rw e)
 
 -- "An event contract in force has no clock": in EC-ACTIVE no timer of EC has seconds left
-pub event-contract-no-clock : (s : List ℕ) → length s ≡ 9 → T (below 9 (settingOk s)) → (cs : List Made) → eqb (getD (after (fresh s) cs .at) EC 0) ACTIVE ≡ true
-    → (getD (after (fresh s) cs .left) EC1 0 ≡ 0) × (getD (after (fresh s) cs .left) EC2 0 ≡ 0)
+pub event-contract-no-clock : (s : List ℕ) → length s ≡ timers → T (below timers (settingOk s)) → (cs : List Made) → eqb (getD (after ground (fresh s) cs .at) EC 0) ACTIVE ≡ true
+    → (getD (after ground (fresh s) cs .left) EC1 0 ≡ 0) × (getD (after ground (fresh s) cs .left) EC2 0 ≡ 0)
+unfolding groundTables
 event-contract-no-clock s e h cs active =
-    let l = after (fresh s) cs in
-    let sound = after-sound (fresh s) cs (fresh-sound s e h) in
-    let off = event-no-clock (l .at) (sound .shape .states) (good-states l (sound .fine)) (eq-T _ active) in
-    (watched l sound EC1 (lit< tt) .else-none (not-true (runs EC1 (l .at)) (T-eq _ (off .0))), watched l sound EC2 (lit< tt) .else-none (not-true (runs EC2 (l .at)) (T-eq _ (off .1))))
-
--- an entry that is there stands among the actions
-one-member : (base t k : ℕ) → t < 9 → eqb t k ≡ true → member (base + t) (one (ltb k 9) (base + k)) ≡ true
-one-member base t k h e =
-    subst (λ (j : ℕ). member (base + t) (one (ltb j 9) (base + j)) ≡ true) (eqb-true t k e)
-    (subst (λ (b : Bool). member (base + t) (one b (base + t)) ≡ true) (sym (lt-ltb t 9 h)) (member-one (base + t)))
-
--- what a move stops and starts stands in its actions
-acts-stop : (m : Move) (send t : ℕ) → t < 9 → eqb t (m .stop) ≡ true → member (16 + t) (actsOf m send) ≡ true
-unfolding actsOf
-acts-stop m send t h e =
-    let a : List ℕ = one (ltb (m .stop) 9) (16 + m .stop) in
-    let b : List ℕ = one (m .ind) 5 in
-    let d : List ℕ = one (m .send) send in
-    let s : List ℕ = one (ltb (m .start) 9) (32 + m .start) in
-    member-left (16 + t) (a ++ b ++ d) s (member-left (16 + t) (a ++ b) d (member-left (16 + t) a b (one-member 16 t (m .stop) h e)))
-
-acts-start : (m : Move) (send t : ℕ) → t < 9 → eqb t (m .start) ≡ true → member (32 + t) (actsOf m send) ≡ true
-unfolding actsOf
-acts-start m send t h e =
-    member-right (32 + t) (one (ltb (m .stop) 9) (16 + m .stop) ++ one (m .ind) 5 ++ one (m .send) send) (one (ltb (m .start) 9) (32 + m .start)) (one-member 32 t (m .start) h e)
-
--- an action list that does not name the timer
-acts-free : (x : ℕ) (l : List ℕ) → member x (acts l .list) ≡ false → member x l ≡ true → ⊥
-unfolding acts
-acts-free x l e h = no-true (sym (member-left x l (replicate (8 - length l) 0) h) ∙ e)
-
-either-none : (a b : Bool) → either a b ≡ false → (a ≡ false) × (b ≡ false)
-either-none true b e = absurd (no-true e)
-either-none false b e = (refl, e)
-
-not-so : (b : Bool) → (b ≡ true → ⊥) → b ≡ false
-not-so true f = absurd (f refl)
-not-so false f = refl
-
-module _ (t : ℕ) (below-nine : t < 9) where
-  -- an answer whose actions are those of the list neither stops nor starts the timer: its entries are not in the list
-  untouched : (x : Answer) (l : List ℕ) → x .said .acts ≡ acts l → touches t x ≡ false → (member (16 + t) l ≡ true → ⊥) × (member (32 + t) l ≡ true → ⊥)
-  unfolding touches
-  untouched x l e u =
-      let v = either-none (member (16 + t) (x .said .acts .list)) (member (32 + t) (x .said .acts .list)) u in
-      (acts-free (16 + t) l (subst (λ (a : Acts). member (16 + t) (a .list) ≡ false) e (v .0)), acts-free (32 + t) l (subst (λ (a : Acts). member (32 + t) (a .list) ≡ false) e (v .1)))
-
-  -- a move whose actions do not name a timer leaves its seconds
-  move-left : (l : Link) (m : Move) (send : ℕ) (more : List ℕ) (x : Answer) → Shaped l → x .said .acts ≡ acts (actsOf m send ++ more) → touches t x ≡ false
-      → getD (moved l m .left) t 0 ≡ getD (l .left) t 0
-  move-left l m send more x s e u =
-      let v = untouched x (actsOf m send ++ more) e u in
-      left-after l m s t below-nine false false
-      (not-so (eqb t (m .start)) (λ q. v .1 (member-left (32 + t) (actsOf m send) more (acts-start m send t below-nine q))))
-      (not-so (eqb t (m .stop)) (λ q. v .0 (member-left (16 + t) (actsOf m send) more (acts-stop m send t below-nine q))))
-
-  -- an answer that stops everything names every running timer
-  stop-touches : (l : Link) (more : List ℕ) (x : Answer) → 1 ≤ getD (l .left) t 0 → x .said .acts ≡ acts (stopsOf 9 (l .left) ++ more) → touches t x ≡ false → ⊥
-  stop-touches l more x on e u =
-      untouched x (stopsOf 9 (l .left) ++ more) e u .0 (member-left (16 + t) (stopsOf 9 (l .left)) more (stops-member (l .left) 9 t below-nine (le-leb 1 _ on)))
-
-  -- what a call that does not touch a running timer leaves of it
-  abbrev Left : Link → Link → ℕ → Type 0
-  Left l l′ n = (getD (l′ .left) t 0 + n ≡ getD (l .left) t 0) × (1 ≤ getD (l′ .left) t 0)
-
-  stay : (l : Link) → 1 ≤ getD (l .left) t 0 → Left l l 0
-  stay l on = (add-zero _, on)
-
-  -- a move with LI set first
-  move-keeps : (l : Link) (k : ℕ) (m : Move) (send : ℕ) (more : List ℕ) (x : Answer) (l′ : Link) → Shaped l → 1 ≤ getD (l .left) t 0
-      → x .said .acts ≡ acts (actsOf m send ++ more) → l′ .left ≡ moved (withLi l k) m .left → touches t x ≡ false → Left l l′ 0
-  unfolding withLi
-  move-keeps l k m send more x l′ s on e f u =
-      let p = ap (λ (xs : List ℕ). getD xs t 0) f ∙ move-left (withLi l k) m send more x (li-shaped l k s) e u in
-      (add-zero _ ∙ p, subst (λ (j : ℕ). 1 ≤ j) (sym p) on)
-
-  -- a timer that runs and isn't due has more than n left
-  more-left : (n left : ℕ) → 1 ≤ left → T (not (due n left)) → n < left
-  unfolding due
-  more-left n left on d = nleb→lt left n (subst (λ (b : Bool). T (not (both b (leb left n)))) (le-leb 1 left on) d)
-
-  waits-keeps : (l : Link) (n : ℕ) → 1 ≤ getD (l .left) t 0 → T (below 9 (notDue n (l .left))) → Left l (later l n) n
-  unfolding notDue
-  waits-keeps l n on d =
-      let more = more-left n (getD (l .left) t 0) on (below-at 9 (notDue n (l .left)) d t below-nine) in
-      let p = left-later l n t in
-      (omega arith, omega arith)
-
-  li-left : (l : Link) (k : ℕ) → withLi l k .left ≡ l .left
-  unfolding withLi
-  li-left l k = refl
-
-  -- a running timer loses the accepted seconds of every call that does not touch it
-  left-kinds : (l : Link) → Sound l → 1 ≤ getD (l .left) t 0 → Kinds l (λ n a. touches t a ≡ false → Left l (a .link) n)
-  unfolding lateData
-  left-kinds l s on =
-      record {
-        stays = λ n h u. stay l on;
-        aborts = λ n k g u. absurd (stop-touches l (4 ∷ 6 ∷ []) (aborted l n) on (abort-list l n s) u);
-        closes = λ e g h u. absurd (stop-touches l (e .entry ∷ []) (closed l e) on (closed-list l e s) u);
-        goes = λ k e entry x g any f u. move-keeps l k (moveOf (l .at) e) entry [] (tells (moved (withLi l k) (moveOf (l .at) e)) 0 (acts (actsOf (moveOf (l .at) e) entry)) x) (moved (withLi l k) (moveOf (l .at) e)) (s .shape) on (ap acts (sym (append-nil _))) refl u;
-        ends = λ e x g f i u. move-keeps l 2 (moveOf (l .at) e) 2 (3 ∷ []) (tells (withLi (moved (withLi l 2) (moveOf (l .at) e)) LI-END) 0 (acts (actsOf (moveOf (l .at) e) 2 ++ (3 ∷ []))) x) (withLi (moved (withLi l 2) (moveOf (l .at) e)) LI-END) (s .shape) on refl (li-left (moved (withLi l 2) (moveOf (l .at) e)) LI-END) u;
-        waits = λ n g d u. waits-keeps l n on d;
-        turns = λ g e u. subst (λ (xs : List ℕ). (getD xs t 0 + 0 ≡ getD (l .left) t 0) × (1 ≤ getD xs t 0)) (sym (li-left l LI-IDLE)) (stay l on);
-        late = λ g u. stay l on;
-      }
-
-  steps : (l : Link) (cs : List Made) → Sound l → 1 ≤ getD (l .left) t 0 → Untouched t l cs → Left l (after l cs) (total l cs)
-  unfolding after total Untouched
-  steps l [] s on u = stay l on
-  steps l (c ∷ cs) s on u =
-      let a = every l (λ n x. touches t x ≡ false → Left l (x .link) n) (left-kinds l s on) c (u .0) in
-      let b = steps (reply l c .link) cs (every l (λ n x. Sound (x .link)) (sound-kinds l s) c) (a .1) (u .1) in
-      (omega arith, b .1)
-
-  -- the elapse that reaches a running timer's seconds aborts
-  reaches : (l : Link) (n : ℕ) → T (good l) → 1 ≤ getD (l .left) t 0 → getD (l .left) t 0 ≤ n → n ≤ 86400 → elapsed l n ≡ aborted l 4
-  unfolding elapsed notDue due
-  reaches l n g on le most =
-      let due-now : notDue n (l .left) t ≡ false = rw (le-leb 1 _ on, le-leb _ n le) in
-      rw (T-eq (good l) g, le-leb n 86400 most, below-fails (notDue n (l .left)) 9 t below-nine due-now)
+    let off = event-off (after ground (fresh s) cs .at) (eqb-true _ ACTIVE active) in
+    (demand3-first s e h cs EC1 (lit< tt) .else-none (off .0), demand3-first s e h cs EC2 (lit< tt) .else-none (off .1))
 
 -- "If a timer has k seconds left, and no call starts or stops it before its accepted elapsed seconds first total k or more, then the call that gets there
 -- aborts the link."
-pub demand3-second : (s : List ℕ) → length s ≡ 9 → T (below 9 (settingOk s)) → (before : List Made) → (t : ℕ) → t < 9 → (k : ℕ) → 1 ≤ k
-    → getD (after (fresh s) before .left) t 0 ≡ k → (cs : List Made) → Untouched t (after (fresh s) before) cs
-    → (n : ℕ) → n ≤ 86400 → k ≤ total (after (fresh s) before) cs + n → (octets : List ℕ)
-    → answered (after (after (fresh s) before) cs) (Elapse n) octets ≡ aborted (after (after (fresh s) before) cs) 4
-unfolding answered
-demand3-second s e h before t lt k one-or-more is cs u n most reach octets =
-    let l = after (fresh s) before in
-    let sound = after-sound (fresh s) before (fresh-sound s e h) in
-    let left = steps t lt l cs sound (subst (λ (j : ℕ). 1 ≤ j) (sym is) one-or-more) u in
-    reaches t lt (after l cs) n (after-sound l cs sound .fine) (left .1) (omega (arith, left .0)) most
+pub demand3-second : (s : List ℕ) → length s ≡ timers → T (below timers (settingOk s)) → (before : List Made) (t : ℕ) → t < timers → (k : ℕ) → 1 ≤ k
+    → getD (after ground (fresh s) before .left) t 0 ≡ k → (cs : List Made) → Untouched ground t (after ground (fresh s) before) cs
+    → (n : ℕ) → n ≤ 86400 → k ≤ total ground (after ground (fresh s) before) cs + n → (octets : List ℕ)
+    → answered (after ground (after ground (fresh s) before) cs) (Elapse n) octets ≡ aborted (after ground (after ground (fresh s) before) cs) 4
+unfolding lawful answered
+demand3-second s e h before t lt k one is cs u n most reach octets = sides.demand3-second ground lawful (fresh s) (fresh-fine s e h) before t lt k one is cs u n most reach

@@ -1,73 +1,55 @@
--- Every answer is of one of eight kinds; what holds of each kind holds of every answer to every call. Assumes nothing.
-use mathlib.Core.Path.{_≡_, refl, sym, subst}
+-- Every answer is of one of nine kinds; what holds of each kind holds of every answer to every call. Assumes nothing.
+use mathlib.Core.Path.{_≡_, refl}
 use mathlib.Core.Bool.{Bool, true, false, not}
-use mathlib.Core.List.{List, [], _∷_, _++_}
+use mathlib.Core.List.{List}
 use Prim.Native.Nat.{ℕ}
 use lib.Dec.{T, leb, eqb}
-use lib.ListN.{replicate}
 use Rattle.per.specs.Pdu as per
 use Rattle.per.specs.Pdu.{readPdu, got, refused}
 use Rattle.pdu.specs.declared.uplink.Ground.{Ground}
-use Rattle.pdu.specs.declared.uplink.Ground.the-variants.{CancelAll}
 use Rattle.pdu.specs.declared.downlink.AirPdu.{AirPdu}
 use Rattle.pdu.specs.DownlinkTable.{airC}
-use Rattle.ground_tables.specs.Tests.{pick, below}
-use Rattle.ground_tables.specs.Moves.{moveOf}
-use Rattle.ground_tables.specs.Acts.{acts}
-use Rattle.link.specs.Record.{LI-IDLE, LI-START, LI-ACTIVE, LI-END, good, idle, liOk, withLi}
-use Rattle.link.specs.Clock.{notDue, later}
-use Rattle.link.specs.Step.{actsOf, moved}
-use Rattle.link.specs.declared.record.Link.{Link}
+use Rattle.link.specs.Tests.{either, pick, below}
+use Rattle.link.specs.Names.{timers}
+use Rattle.link.specs.Clock.{notDue}
+use Rattle.link.specs.Step.{performed}
+use Rattle.link.proofs.Laws.{eq-T}
+use Rattle.sides.specs.Runs.{seconds}
+use Rattle.ground_tables.specs.Names.{LI-IDLE, LI-START, LI-ACTIVE, LI-END}
+use Rattle.ground_tables.specs.Moves.{liEnd}
+use Rattle.ground_tables.specs.Tables.{idle, liIs, liBusy}
+use Rattle.ground_answer.specs.Record.{loads, good, moveAt, went}
+use Rattle.ground_answer.specs.declared.record.Link.{Link}
 use Rattle.ground_answer.specs.Events.{cancel-all, requestEvent, airEvent}
 use Rattle.ground_answer.specs.Sent.{outgoing}
 use Rattle.ground_answer.specs.declared.sent.Sent.{Sent}
-use Rattle.ground_answer.specs.Answers.{ABORT-REQUEST, ABORT-IND, PEER-ABORT-IND, START-REQUEST, DATA-REQUEST, END-REQUEST, refusal, tells, quietly, allowed}
-use Rattle.ground_answer.specs.Aborts.{aborted, endsWith, closed, closedWhen}
-use Rattle.ground_answer.specs.Clock.{elapsed}
-use Rattle.ground.specs.Requests.{asked, allCancelled, requested, userAborted}
+use Rattle.ground_answer.specs.Answers.{ABORT-REQUEST, ABORT-IND, PEER-ABORT-IND, START-REQUEST, DATA-REQUEST, END-REQUEST, refusal, tells, allowed}
+use Rattle.ground_answer.specs.Aborts.{aborted, closed, closedWhen}
+use Rattle.ground_answer.specs.Clock.{waited, elapsed}
+use Rattle.ground.specs.Requests.{asked, cancelled, allCancelled, requested, userAborted}
 use Rattle.ground.specs.Arrivals.{ackOf, ended, passed, taken, confirmed, lateData, arrived}
-use Rattle.ground.specs.Endings.{rejected, failed, reasonOf, airAborted, peerAborted, endConfirmed}
-use Rattle.ground.specs.Runs.{answered, Made, reply, elapseOf, seconds}
+use Rattle.ground.specs.Endings.{rejected, failed, reasonOf, airAborted, peerAborted, over, endConfirmed}
+use Rattle.ground.specs.Runs.{answered, Made, reply, elapseOf, ground}
 use Rattle.ground_answer.specs.declared.answer.Answer.{Answer}
-use Rattle.ground_answer.specs.declared.abort.Ending.{Ending}
 use Rattle.ground.specs.declared.call.Call.{Call}
 use Rattle.ground.specs.declared.call.Call.the-variants.{Request, UserAbort, Elapse, StartConfirm, StartRejected, Data, EndConfirm, PeerAbort, AirAbort, Down}
 
-pub eq-T : (b : Bool) → b ≡ true → T b
-eq-T b e = subst T (sym e) tt
-
-pub T-eq : (b : Bool) → T b → b ≡ true
-T-eq true t = refl
-T-eq false t = absurd t
-
--- LI may be so whatever the modules' states are
-pub start-any : (at : List ℕ) → T (liOk LI-START at)
-unfolding liOk
-start-any at = tt
-
-pub active-any : (at : List ℕ) → T (liOk LI-ACTIVE at)
-unfolding liOk
-active-any at = tt
-
-idle-li : T (liOk LI-IDLE (replicate 4 0))
-unfolding liOk idle
-idle-li = tt
-
-end-li : T (liOk LI-END (replicate 4 0))
-unfolding liOk idle
-end-li = tt
+-- LI goes to k first: from IDLE to START, from START or ACTIVE to ACTIVE
+pub data Way (at : List ℕ) : ℕ → Type 0 where
+  starts : T (liIs at LI-IDLE) → Way at LI-START
+  stays-open : T (liBusy at) → Way at LI-ACTIVE
 
 -- P holds of the accepted seconds and the answer of each kind
 pub record Kinds (l : Link) (P : ℕ → Answer → Type 0) : Type 0 where
   pub stays : (n : ℕ) → eqb n 0 ≡ false → P 0 (refusal l n)
   pub aborts : (n s : ℕ) → T (good l) → P s (aborted l n)
-  pub closes : (e : Ending) → T (good l) → T (liOk (e .li) (replicate 4 0)) → P 0 (closed l e)
-  pub goes : (k e entry : ℕ) (s : Sent) → T (good l) → ((at : List ℕ) → T (liOk k at)) → eqb (moveOf (l .at) e .fate) 0 ≡ true
-      → P 0 (tells (moved (withLi l k) (moveOf (l .at) e)) 0 (acts (actsOf (moveOf (l .at) e) entry)) s)
-  pub ends : (e : ℕ) (s : Sent) → T (good l) → eqb (moveOf (l .at) e .fate) 0 ≡ true → idle (moved (withLi l LI-ACTIVE) (moveOf (l .at) e) .at) ≡ true
-      → P 0 (tells (withLi (moved (withLi l LI-ACTIVE) (moveOf (l .at) e)) LI-END) 0 (acts (actsOf (moveOf (l .at) e) DATA-REQUEST ++ (END-REQUEST ∷ []))) s)
-  pub waits : (n : ℕ) → T (good l) → T (below 9 (notDue n (l .left))) → P n (quietly (later l n))
-  pub turns : T (good l) → eqb (l .li) LI-END ≡ true → P 0 (quietly (withLi l LI-IDLE))
+  pub closes : (entry reason : ℕ) → T (good l) → P 0 (closed l entry reason)
+  pub cancels : T (good l) → P 0 (cancelled l)
+  pub goes : (k e entry : ℕ) (s : Sent) → T (good l) → Way (l .at) k → eqb (moveAt l k e .fate) 0 ≡ true → P 0 (tells l (went l k e entry) 0 s)
+  pub ends : (e : ℕ) (s : Sent) → T (good l) → T (liBusy (l .at)) → eqb (moveAt l LI-ACTIVE e .fate) 0 ≡ true → T (idle (went l LI-ACTIVE e DATA-REQUEST .at))
+      → P 0 (tells l (performed (went l LI-ACTIVE e DATA-REQUEST) liEnd (loads l) END-REQUEST) 0 s)
+  pub waits : (n : ℕ) → T (good l) → T (below timers (notDue n (l .left))) → P n (waited l n)
+  pub turns : T (good l) → T (liIs (l .at) LI-END) → P 0 (over l)
   pub late : T (good l) → P 0 (lateData l)
 
 pick-case : (Q : Answer → Type 0) (b : Bool) {x y : Answer} → (b ≡ true → Q x) → (b ≡ false → Q y) → Q (pick b x y)
@@ -75,69 +57,87 @@ pick-case Q true f g = f refl
 pick-case Q false f g = g refl
 
 allowed-case : (Q : Answer → Type 0) (l : Link) (may : Bool) (number : ℕ) (a : Answer) → Q (refusal l 29) → Q (refusal l number)
-    → (good l ≡ true → may ≡ true → Q a) → Q (allowed l may number a)
-allowed-case Q l may number a bad barred f = pick-case Q (good l) (λ g. pick-case Q may (λ m. f g m) (λ m. barred)) (λ g. bad)
+    → (T (good l) → T may → Q a) → Q (allowed l may number a)
+allowed-case Q l may number a bad barred f = pick-case Q (good l) (λ g. pick-case Q may (λ m. f (eq-T _ g) (eq-T _ m)) (λ m. barred)) (λ g. bad)
+
+busy-start : (at : List ℕ) → T (liIs at LI-START) → T (liBusy at)
+unfolding liBusy
+busy-start at t = go (liIs at LI-START) t
+  where
+    go : (x : Bool) → T x → T (either x (liIs at LI-ACTIVE))
+    go true u = tt
+    go false u = absurd u
+
+busy-active : (at : List ℕ) → T (liIs at LI-ACTIVE) → T (liBusy at)
+unfolding liBusy
+busy-active at t = go (liIs at LI-START) (liIs at LI-ACTIVE) t
+  where
+    go : (x y : Bool) → T y → T (either x y)
+    go true y u = tt
+    go false y u = u
 
 module _ (l : Link) (P : ℕ → Answer → Type 0) (k : Kinds l P) where
-  closing : (may : Bool) (number : ℕ) (e : Ending) → eqb number 0 ≡ false → T (liOk (e .li) (replicate 4 0)) → P 0 (closedWhen l may number e)
+  closing : (may : Bool) (number entry reason : ℕ) → eqb number 0 ≡ false → P 0 (closedWhen l may number entry reason)
   unfolding closedWhen
-  closing may number e h ok = allowed-case (P 0) l may number (closed l e) (k .stays 29 refl) (k .stays number h) (λ g m. k .closes e (eq-T _ g) ok)
+  closing may number entry reason h = allowed-case (P 0) l may number (closed l entry reason) (k .stays 29 refl) (k .stays number h) (λ g m. k .closes entry reason g)
 
-  asking : (g : Ground) (li entry : ℕ) → ((at : List ℕ) → T (liOk li at)) → T (good l) → P 0 (asked l g li entry)
+  asking : (g : Ground) (li entry : ℕ) → Way (l .at) li → T (good l) → P 0 (asked l g li entry)
   unfolding asked
-  asking g li entry any ok =
-      pick-case (P 0) (eqb (moveOf (l .at) (requestEvent g) .fate) 0)
-      (λ f. pick-case (P 0) (eqb (outgoing g .refusal) 0) (λ r. k .goes li (requestEvent g) entry (outgoing g .sent) ok any f) (λ r. k .stays (outgoing g .refusal) r))
+  asking g li entry w ok =
+      pick-case (P 0) (eqb (moveAt l li (requestEvent g) .fate) 0)
+      (λ f. pick-case (P 0) (eqb (outgoing g .refusal) 0) (λ r. k .goes li (requestEvent g) entry (outgoing g .sent) ok w f) (λ r. k .stays (outgoing g .refusal) r))
       (λ f. k .stays 1 refl)
 
   requesting : (g : Ground) → P 0 (requested l g)
   unfolding requested allCancelled
   requesting g =
       pick-case (P 0) (eqb (requestEvent g) cancel-all)
-      (λ e. closing (eqb (l .li) LI-ACTIVE) 1 (record { entry = END-REQUEST; reason = 0; li = LI-END; sent = outgoing CancelAll .sent }) refl end-li)
+      (λ e. allowed-case (P 0) l (liIs (l .at) LI-ACTIVE) 1 (cancelled l) (k .stays 29 refl) (k .stays 1 refl) (λ g m. k .cancels g))
       (λ e. pick-case (P 0) (good l)
-      (λ ok. pick-case (P 0) (eqb (l .li) LI-IDLE) (λ i. asking g LI-START START-REQUEST start-any (eq-T _ ok))
-      (λ i. pick-case (P 0) (eqb (l .li) LI-ACTIVE) (λ j. asking g LI-ACTIVE DATA-REQUEST active-any (eq-T _ ok)) (λ j. k .stays 1 refl)))
+      (λ ok. pick-case (P 0) (liIs (l .at) LI-IDLE) (λ i. asking g LI-START START-REQUEST (starts (eq-T _ i)) (eq-T _ ok))
+      (λ i. pick-case (P 0) (liIs (l .at) LI-ACTIVE) (λ j. asking g LI-ACTIVE DATA-REQUEST (stays-open (busy-active (l .at) (eq-T _ j))) (eq-T _ ok)) (λ j. k .stays 1 refl)))
       (λ bad. k .stays 29 refl))
 
-  passing : (e : ℕ) → T (good l) → P 0 (passed l e)
+  passing : (e : ℕ) → T (good l) → T (liBusy (l .at)) → P 0 (passed l e)
   unfolding passed ended
-  passing e ok =
-      pick-case (P 0) (eqb (moveOf (l .at) e .fate) 0)
-      (λ f. pick-case (P 0) (idle (moved (withLi l LI-ACTIVE) (moveOf (l .at) e) .at))
-      (λ i. k .ends e (ackOf (moveOf (l .at) e)) ok f i)
-      (λ i. k .goes LI-ACTIVE e DATA-REQUEST (ackOf (moveOf (l .at) e)) ok active-any f))
+  passing e ok b =
+      pick-case (P 0) (eqb (moveAt l LI-ACTIVE e .fate) 0)
+      (λ f. pick-case (P 0) (idle (went l LI-ACTIVE e DATA-REQUEST .at))
+      (λ i. k .ends e (ackOf (moveAt l LI-ACTIVE e)) ok b f (eq-T _ i))
+      (λ i. k .goes LI-ACTIVE e DATA-REQUEST (ackOf (moveAt l LI-ACTIVE e)) ok (stays-open b) f))
       (λ f. k .aborts 3 0 ok)
 
-  taking : (x : per.Answer AirPdu) → T (good l) → P 0 (taken l x)
+  taking : (x : per.Answer AirPdu) → T (good l) → T (liBusy (l .at)) → P 0 (taken l x)
   unfolding taken
-  taking (got a) ok = passing (airEvent (a .kind)) ok
-  taking (refused n) ok = k .aborts 2 0 ok
+  taking (got a) ok b = passing (airEvent (a .kind)) ok b
+  taking (refused n) ok b = k .aborts 2 0 ok
 
   confirming : (s : List ℕ) → P 0 (confirmed l s)
   unfolding confirmed
-  confirming s = allowed-case (P 0) l (eqb (l .li) LI-START) 2 (taken l (readPdu airC s)) (k .stays 29 refl) (k .stays 2 refl) (λ g m. taking (readPdu airC s) (eq-T _ g))
+  confirming s =
+      allowed-case (P 0) l (liIs (l .at) LI-START) 2 (taken l (readPdu airC s)) (k .stays 29 refl) (k .stays 2 refl)
+      (λ g m. taking (readPdu airC s) g (busy-start (l .at) m))
 
   arriving : (s : List ℕ) → P 0 (arrived l s)
   unfolding arrived
   arriving s =
       pick-case (P 0) (good l)
-      (λ g. pick-case (P 0) (eqb (l .li) LI-ACTIVE) (λ i. taking (readPdu airC s) (eq-T _ g))
-      (λ i. pick-case (P 0) (eqb (l .li) LI-END) (λ j. k .late (eq-T _ g)) (λ j. k .stays 2 refl)))
+      (λ g. pick-case (P 0) (liIs (l .at) LI-ACTIVE) (λ i. taking (readPdu airC s) (eq-T _ g) (busy-active (l .at) (eq-T _ i)))
+      (λ i. pick-case (P 0) (liIs (l .at) LI-END) (λ j. k .late (eq-T _ g)) (λ j. k .stays 2 refl)))
       (λ g. k .stays 29 refl)
 
   finishing : P 0 (endConfirmed l)
   unfolding endConfirmed
-  finishing = allowed-case (P 0) l (eqb (l .li) LI-END) 2 (quietly (withLi l LI-IDLE)) (k .stays 29 refl) (k .stays 2 refl) (λ g m. k .turns (eq-T _ g) m)
+  finishing = allowed-case (P 0) l (liIs (l .at) LI-END) 2 (over l) (k .stays 29 refl) (k .stays 2 refl) (λ g m. k .turns g m)
 
   -- accepted seconds of an elapse: none where it is refused
   elapsing : (n : ℕ) → P (pick (eqb (elapsed l n .said .refusal) 0) n 0) (elapsed l n)
-  unfolding elapsed aborted
+  unfolding elapsed waited aborted
   elapsing n =
       allowed-case (λ (a : Answer). P (pick (eqb (a .said .refusal) 0) n 0) a) l (leb n 86400) 4
-      (pick (below 9 (notDue n (l .left))) (quietly (later l n)) (aborted l 4)) (k .stays 29 refl) (k .stays 4 refl)
-      (λ g m. pick-case (λ (a : Answer). P (pick (eqb (a .said .refusal) 0) n 0) a) (below 9 (notDue n (l .left)))
-      (λ d. k .waits n (eq-T _ g) (eq-T _ d)) (λ d. k .aborts 4 n (eq-T _ g)))
+      (pick (below timers (notDue n (l .left))) (waited l n) (aborted l 4)) (k .stays 29 refl) (k .stays 4 refl)
+      (λ g m. pick-case (λ (a : Answer). P (pick (eqb (a .said .refusal) 0) n 0) a) (below timers (notDue n (l .left)))
+      (λ d. k .waits n g (eq-T _ d)) (λ d. k .aborts 4 n g))
 
   none-asked : (a : Answer) → P 0 a → P (pick (eqb (a .said .refusal) 0) 0 0) a
   none-asked a p = go (eqb (a .said .refusal) 0)
@@ -146,18 +146,18 @@ module _ (l : Link) (P : ℕ → Answer → Type 0) (k : Kinds l P) where
       go true = p
       go false = p
 
-  pub every : (c : Made) → P (seconds l c) (reply l c)
+  pub every : (c : Made) → P (seconds ground l c) (reply l c)
   unfolding seconds answered userAborted rejected failed airAborted peerAborted
   every c = go (c .call) (c .octets)
     where
       go : (c : Call) (s : List ℕ) → P (pick (eqb (answered l c s .said .refusal) 0) (elapseOf c) 0) (answered l c s)
       go (Request g) s = none-asked (requested l g) (requesting g)
-      go UserAbort s = none-asked (userAborted l) (closing (not (eqb (l .li) LI-IDLE)) 1 (endsWith ABORT-REQUEST 0 LI-IDLE []) refl idle-li)
+      go UserAbort s = none-asked (userAborted l) (closing (not (liIs (l .at) LI-IDLE)) 1 ABORT-REQUEST 0 refl)
       go (Elapse n) s = elapsing n
       go StartConfirm s = none-asked (confirmed l s) (confirming s)
-      go StartRejected s = none-asked (rejected l) (closing (eqb (l .li) LI-START) 2 (endsWith ABORT-IND 5 LI-IDLE []) refl idle-li)
+      go StartRejected s = none-asked (rejected l) (closing (liIs (l .at) LI-START) 2 ABORT-IND 5 refl)
       go Data s = none-asked (arrived l s) (arriving s)
       go EndConfirm s = none-asked (endConfirmed l) finishing
-      go PeerAbort s = none-asked (peerAborted l) (closing (not (eqb (l .li) LI-IDLE)) 2 (endsWith PEER-ABORT-IND 0 LI-IDLE []) refl idle-li)
-      go AirAbort s = none-asked (airAborted l s) (closing (not (eqb (l .li) LI-IDLE)) 2 (endsWith ABORT-IND (reasonOf (readPdu airC s)) LI-IDLE []) refl idle-li)
-      go Down s = none-asked (failed l) (closing (not (eqb (l .li) LI-IDLE)) 2 (endsWith ABORT-IND 0 LI-IDLE []) refl idle-li)
+      go PeerAbort s = none-asked (peerAborted l) (closing (not (liIs (l .at) LI-IDLE)) 2 PEER-ABORT-IND 0 refl)
+      go AirAbort s = none-asked (airAborted l s) (closing (not (liIs (l .at) LI-IDLE)) 2 ABORT-IND (reasonOf (readPdu airC s)) refl)
+      go Down s = none-asked (failed l) (closing (not (liIs (l .at) LI-IDLE)) 2 ABORT-IND 0 refl)

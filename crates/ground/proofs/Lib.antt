@@ -1,4 +1,4 @@
-pub mod Fits
+pub mod Moving
 pub mod Keeps
 pub mod Stops
 pub mod Every

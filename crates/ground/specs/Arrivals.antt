@@ -1,5 +1,5 @@
 -- Data from the aircraft, and the answer to our start: LI's table of 01. The order of refusals is 29, then 2.
-use mathlib.Core.List.{List, [], _∷_, _++_}
+use mathlib.Core.List.{List, []}
 use Prim.Native.Nat.{ℕ}
 use lib.Dec.{eqb}
 use Rattle.per.specs.Pdu as per
@@ -7,17 +7,19 @@ use Rattle.per.specs.Pdu.{readPdu, got, refused}
 use Rattle.pdu.specs.declared.uplink.Ground.the-variants.{CancelEmergencyAck}
 use Rattle.pdu.specs.declared.downlink.AirPdu.{AirPdu}
 use Rattle.pdu.specs.DownlinkTable.{airC}
-use Rattle.ground_tables.specs.Tests.{pick}
-use Rattle.ground_tables.specs.Moves.{moveOf}
-use Rattle.ground_tables.specs.Acts.{acts}
-use Rattle.ground_tables.specs.declared.decide.Move.{Move}
-use Rattle.link.specs.Record.{LI-START, LI-ACTIVE, LI-END, idle, withLi}
-use Rattle.link.specs.Step.{actsOf, moved}
-use Rattle.link.specs.declared.record.Link.{Link}
+use Rattle.link.specs.Tests.{pick}
+use Rattle.link.specs.Step.{performed, begun, added}
+use Rattle.link.specs.declared.moves.Move.{Move}
+use Rattle.link.specs.declared.executor.Step.{Step}
+use Rattle.ground_tables.specs.Names.{LI-START, LI-ACTIVE, LI-END}
+use Rattle.ground_tables.specs.Moves.{liEnd}
+use Rattle.ground_tables.specs.Tables.{idle, liIs}
+use Rattle.ground_answer.specs.Record.{loads, moveAt, went}
+use Rattle.ground_answer.specs.declared.record.Link.{Link}
 use Rattle.ground_answer.specs.Events.{airEvent}
 use Rattle.ground_answer.specs.Sent.{sent, outgoing}
 use Rattle.ground_answer.specs.declared.sent.Sent.{Sent}
-use Rattle.ground_answer.specs.Answers.{DATA-REQUEST, END-REQUEST, LATE, refusal, tells, checked, allowed}
+use Rattle.ground_answer.specs.Answers.{DATA-REQUEST, END-REQUEST, LATE, refusal, tells, quietly, checked, allowed}
 use Rattle.ground_answer.specs.Aborts.{aborted}
 use Rattle.ground_answer.specs.declared.answer.Answer.{Answer}
 
@@ -26,15 +28,13 @@ unfoldable pub ackOf : Move → Sent
 ackOf m = pick (m .send) (outgoing CancelEmergencyAck .sent) (sent [])
 
 -- "After confirm or data without an abort, if all four modules are IDLE, one end request is added at the end, END."
-unfoldable pub ended : Link → Move → Answer
-ended l m =
-    pick (idle (moved l m .at))
-    (tells (withLi (moved l m) LI-END) 0 (acts (actsOf m DATA-REQUEST ++ (END-REQUEST ∷ []))) (ackOf m))
-    (tells (moved l m) 0 (acts (actsOf m DATA-REQUEST)) (ackOf m))
+unfoldable pub ended : Link → Step → Sent → Answer
+ended l s octets = pick (idle (s .at)) (tells l (performed s liEnd (loads l) END-REQUEST) 0 octets) (tells l s 0 octets)
 
 -- "Downlink data not listed for a state: abort 3."
 unfoldable pub passed : Link → ℕ → Answer
-passed l e = pick (eqb (moveOf (l .at) e .fate) 0) (ended (withLi l LI-ACTIVE) (moveOf (l .at) e)) (aborted l 3)
+passed l e =
+    pick (eqb (moveAt l LI-ACTIVE e .fate) 0) (ended l (went l LI-ACTIVE e DATA-REQUEST) (ackOf (moveAt l LI-ACTIVE e))) (aborted l 3)
 
 -- "A value is taken only when the reading is good; otherwise a start confirm in START or data in ACTIVE ends in abort 2."
 unfoldable pub taken : Link → per.Answer AirPdu → Answer
@@ -43,12 +43,12 @@ taken l (refused n) = aborted l 2
 
 -- "START: accepted start confirm passes its data, then ACTIVE"; "Link primitives not listed: refusal 2."
 unfoldable pub confirmed : Link → List ℕ → Answer
-confirmed l s = allowed l (eqb (l .li) LI-START) 2 (taken l (readPdu airC s))
+confirmed l s = allowed l (liIs (l .at) LI-START) 2 (taken l (readPdu airC s))
 
 -- "END: data is set aside unread as "late""
 unfoldable pub lateData : Link → Answer
-lateData l = tells l 0 (acts (LATE ∷ [])) (sent [])
+lateData l = quietly l (added (begun (l .at) (l .left)) LATE)
 
 -- "ACTIVE: data passes."
 unfoldable pub arrived : Link → List ℕ → Answer
-arrived l s = checked l (pick (eqb (l .li) LI-ACTIVE) (taken l (readPdu airC s)) (pick (eqb (l .li) LI-END) (lateData l) (refusal l 2)))
+arrived l s = checked l (pick (liIs (l .at) LI-ACTIVE) (taken l (readPdu airC s)) (pick (liIs (l .at) LI-END) (lateData l) (refusal l 2)))

@@ -1,15 +1,12 @@
--- Every call under one name, and sequences of calls on one link.
-use mathlib.Core.Bool.{Bool, true, false}
-use mathlib.Core.Path.{_≡_}
-use mathlib.Core.List.{List, [], _∷_, _++_}
-use Prim.Native.Nat.{ℕ, zero, suc, _+_, _≤_}
-use lib.Dec.{eqb, leb}
-use lib.ListN.{getD}
-use Rattle.ground_tables.specs.Tests.{either, pick}
-use Rattle.ground_tables.specs.Watch.{runs}
-use Rattle.ground_tables.specs.Acts.{one}
-use Rattle.link.specs.declared.record.Link.{Link}
+-- Every call under one name, and the ground link as a side: sequences of calls on one link, accepted seconds, started and stopped timers are those of every side.
+use mathlib.Core.List.{List, []}
+use Prim.Native.Nat.{ℕ}
+use Rattle.sides.specs.Runs.{Side}
+use Rattle.ground_tables.specs.Tables.{groundTables}
+use Rattle.ground_answer.specs.Record.{view}
+use Rattle.ground_answer.specs.declared.record.Link.{Link}
 use Rattle.ground_answer.specs.Clock.{elapsed}
+use Rattle.ground_answer.specs.Aborts.{aborted}
 use Rattle.ground.specs.Requests.{requested, userAborted}
 use Rattle.ground.specs.Arrivals.{confirmed, arrived}
 use Rattle.ground.specs.Endings.{rejected, failed, airAborted, peerAborted, endConfirmed}
@@ -37,26 +34,7 @@ pub record Made : Type 0 where
 abbrev pub reply : Link → Made → Answer
 reply l c = answered l (c .call) (c .octets)
 
--- the link after a sequence of calls
-unfoldable pub after : Link → List Made → Link
-after l [] = l
-after l (c ∷ cs) = after (reply l c .link) cs
-
--- the stop entries of the running timers below t, in watch order. With a good link they are at most four, so none is dropped: `stops-whole`, proofs/Stops.antt
-unfoldable pub stopsOf : ℕ → List ℕ → List ℕ
-stopsOf zero left = []
-stopsOf (suc t) left = stopsOf t left ++ one (leb 1 (getD left t 0)) (16 + t)
-
-abbrev pub member : ℕ → List ℕ → Bool
-member x [] = false
-member x (y ∷ ys) = either (eqb x y) (member x ys)
-
--- For demand 3's "If a timer has k seconds left, and no call starts or stops it before its accepted elapsed seconds first total k or more": starting and stopping
--- are read off the action lists that the tables give, accepted seconds off the answers. The answer's action list stops or starts the timer t
-unfoldable pub touches : ℕ → Answer → Bool
-touches t a = either (member (16 + t) (a .said .acts .list)) (member (32 + t) (a .said .acts .list))
-
--- the seconds that a call asks for, and those that were accepted
+-- the seconds that a call asks for
 abbrev pub elapseOf : Call → ℕ
 elapseOf (Request g) = 0
 elapseOf UserAbort = 0
@@ -69,19 +47,19 @@ elapseOf PeerAbort = 0
 elapseOf AirAbort = 0
 elapseOf Down = 0
 
-unfoldable pub seconds : Link → Made → ℕ
-seconds l c = pick (eqb (reply l c .said .refusal) 0) (elapseOf (c .call)) 0
-
-unfoldable pub total : Link → List Made → ℕ
-total l [] = 0
-total l (c ∷ cs) = seconds l c + total (reply l c .link) cs
-
--- no call of the sequence stops or starts the timer t
-unfoldable pub Untouched : ℕ → Link → List Made → Type 0
-Untouched t l [] = Unit {0}
-Untouched t l (c ∷ cs) = (touches t (reply l c) ≡ false) × Untouched t (reply l c .link) cs
-
--- "the running timers are exactly those the watch table names for the present states, each with at least one second left and no more than its setting"
-pub record Watched (l : Link) (t : ℕ) : Type 0 where
-  pub runs-left : runs t (l .at) ≡ true → (1 ≤ getD (l .left) t 0) × (getD (l .left) t 0 ≤ getD (l .setting) t 0)
-  pub else-none : runs t (l .at) ≡ false → getD (l .left) t 0 ≡ 0
+abbrev pub ground : Side
+ground =
+    record {
+      tables = groundTables;
+      Rec = Link;
+      Call = Made;
+      Answer = Answer;
+      view = view;
+      reply = reply;
+      next = λ a. a .link;
+      said = λ a. a .said .acts;
+      refusal = λ a. a .said .refusal;
+      elapse = λ n. record { call = Elapse n; octets = [] };
+      asks = λ c. elapseOf (c .call);
+      abort = λ l. aborted l 4;
+    }

@@ -2,21 +2,22 @@
 use ground_answer::abort::abort;
 use ground_answer::answer::*;
 use ground_answer::events::air_event;
+use ground_answer::record::Link;
+use ground_answer::record::all_idle;
+use ground_answer::record::is_good;
+use ground_answer::record::most_of;
+use ground_answer::record::turn;
 use ground_answer::sent::Sent;
 use ground_answer::sent::nothing;
 use ground_answer::sent::write;
-use ground_tables::acts::none;
-use ground_tables::acts::push;
-use ground_tables::decide::Move;
 use ground_tables::decide::decide;
+use ground_tables::decide::li_end;
+use ground_tables::names::*;
+use link::executor::Step;
+use link::executor::add;
+use link::executor::begin;
 use link::executor::perform;
-use link::record::LI_ACTIVE;
-use link::record::LI_END;
-use link::record::LI_START;
-use link::record::Link;
-use link::record::all_idle;
-use link::record::is_good;
-use link::record::with_li;
+use link::moves::Move;
 use pdu::AirAnswer;
 use pdu::decode_air;
 use pdu::uplink::Ground;
@@ -29,37 +30,37 @@ ghost use Rattle.ground.specs.Arrivals.{ackOf, ended, passed, taken, con
 fn ack_of(m: Move) -> Sent
     ensures { λ r. ⌜ r ≡ ackOf m ⌝ }
 {
-    let w = write(Ground::CancelEmergencyAck);
-    let sent = w.sent;
-    if m.send { sent } else { nothing() }
+    if m.send {
+        let w = write(Ground::CancelEmergencyAck);
+        w.sent
+    } else {
+        nothing()
+    }
 }
 
-// A move that data made: one end request at the end where all four modules are IDLE.
-fn perform_data(l: Link, m: Move) -> Answer
-    ensures { λ r. ⌜ r ≡ ended l m ⌝ }
+// After a move that data made: one end request at the end where all four modules are IDLE.
+fn end(l: Link, s: Step, sent: Sent) -> Answer
+    ensures { λ r. ⌜ r ≡ ended l s sent ⌝ }
 {
-    let sent = ack_of(m);
-    let step = perform(l, m, DATA_REQUEST);
-    let link = step.link;
-    let acts = step.acts;
-    let at = link.at;
+    let at = s.at;
     if all_idle(at) {
-        return tell(with_li(link, LI_END), 0, push(acts, END_REQUEST), sent);
+        return tell(l, perform(s, li_end(), most_of(l), END_REQUEST), 0, sent);
     }
-    tell(link, 0, acts, sent)
+    tell(l, s, 0, sent)
 }
 
 // Data for the modules: what is not listed is abort 3.
 fn pass(l: Link, event: u8) -> Answer
     ensures { λ r. ⌜ r ≡ passed l event ⌝ }
 {
-    let at = l.at;
+    let first = turn(l, LI_ACTIVE);
+    let at = first.at;
     let m = decide(at, event);
     let fate = m.fate;
     if fate != 0 {
         return abort(l, 3);
     }
-    perform_data(with_li(l, LI_ACTIVE), m)
+    end(l, perform(first, m, most_of(l), DATA_REQUEST), ack_of(m))
 }
 
 // A value is taken only when the reading is good; otherwise abort 2.
@@ -81,8 +82,8 @@ pub fn start_confirm(l: Link, octets: &[u8]) -> Answer
     if !is_good(l) {
         return refuse(l, 29);
     }
-    let li = l.li;
-    if li != LI_START {
+    let at = l.at;
+    if at[4] != LI_START {
         return refuse(l, 2);
     }
     take(l, octets)
@@ -91,7 +92,9 @@ pub fn start_confirm(l: Link, octets: &[u8]) -> Answer
 fn late(l: Link) -> Answer
     ensures { λ r. ⌜ r ≡ lateData l ⌝ }
 {
-    tell(l, 0, push(none(), LATE), nothing())
+    let at = l.at;
+    let left = l.left;
+    change(l, add(begin(at, left), LATE))
 }
 
 // Data: in END it is set aside unread.
@@ -101,8 +104,8 @@ pub fn data(l: Link, octets: &[u8]) -> Answer
     if !is_good(l) {
         return refuse(l, 29);
     }
-    let li = l.li;
-    match li {
+    let at = l.at;
+    match at[4] {
         LI_ACTIVE => take(l, octets),
         LI_END => late(l),
         _ => refuse(l, 2),

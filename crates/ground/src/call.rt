@@ -10,7 +10,7 @@ use crate::requests::request;
 use crate::requests::user_abort;
 use ground_answer::answer::Answer;
 use ground_answer::clock::elapse;
-use link::record::Link;
+use ground_answer::record::Link;
 use pdu::uplink::Ground;
 ghost use mathlib.Core.Path.{_≡_};
 ghost use Rattle.ground.specs.Runs.{answered};

@@ -1,51 +1,34 @@
 // What else comes from below: a rejected start, aborts, a failure, the end confirm.
-use ground_answer::abort::Ending;
-use ground_answer::abort::abort;
 use ground_answer::abort::close_when;
 use ground_answer::answer::*;
 use ground_answer::events::reason_in;
-use ground_answer::sent::nothing;
-use link::record::LI_END;
-use link::record::LI_IDLE;
-use link::record::LI_START;
-use link::record::Link;
-use link::record::is_good;
-use link::record::with_li;
+use ground_answer::record::Link;
+use ground_answer::record::is_good;
+use ground_answer::record::most_of;
+use ground_tables::decide::li_over;
+use ground_tables::names::*;
+use link::executor::begin;
+use link::executor::perform;
 use pdu::AirAnswer;
 use pdu::decode_air;
 ghost use mathlib.Core.Path.{_≡_};
-ghost use mathlib.Core.List.{[]};
 ghost use Rattle.per.specs.Pdu.{readPdu};
 ghost use Rattle.pdu.specs.DownlinkTable.{airC};
-ghost use Rattle.link.specs.Record.{LI-IDLE};
-ghost use Rattle.ground_answer.specs.Aborts.{endsWith};
 ghost use Rattle.ground.specs.Endings.{reasonOf, peerAborted, airAborted, failed, rejected, endConfirmed};
-
-fn end_shown(entry: u8, reason: u32) -> Ending
-    ensures { λ r. ⌜ r ≡ endsWith entry reason LI-IDLE [] ⌝ }
-{
-    let sent = nothing();
-    Ending {
-        entry,
-        reason,
-        li: LI_IDLE,
-        sent,
-    }
-}
 
 // A rejected start: abort 5, with no abort request.
 pub fn start_rejected(l: Link) -> Answer
     ensures { λ r. ⌜ r ≡ rejected l ⌝ }
 {
-    let li = l.li;
-    close_when(l, li == LI_START, 2, end_shown(ABORT_IND, 5))
+    let at = l.at;
+    close_when(l, at[4] == LI_START, 2, ABORT_IND, 5)
 }
 
 pub fn peer_abort(l: Link) -> Answer
     ensures { λ r. ⌜ r ≡ peerAborted l ⌝ }
 {
-    let li = l.li;
-    close_when(l, li != LI_IDLE, 2, end_shown(PEER_ABORT_IND, 0))
+    let at = l.at;
+    close_when(l, at[4] != LI_IDLE, 2, PEER_ABORT_IND, 0)
 }
 
 // The reason in an abort's octets; 6 where they are no provider abort that reads well.
@@ -64,17 +47,17 @@ fn reason_of(octets: &[u8]) -> u32
 pub fn air_abort(l: Link, octets: &[u8]) -> Answer
     ensures { λ r. ⌜ r ≡ airAborted l (now (octets .entry)) ⌝ }
 {
-    let li = l.li;
+    let at = l.at;
     let reason = reason_of(octets);
-    close_when(l, li != LI_IDLE, 2, end_shown(ABORT_IND, reason))
+    close_when(l, at[4] != LI_IDLE, 2, ABORT_IND, reason)
 }
 
 // The provider below fails.
 pub fn down(l: Link) -> Answer
     ensures { λ r. ⌜ r ≡ failed l ⌝ }
 {
-    let li = l.li;
-    close_when(l, li != LI_IDLE, 2, end_shown(ABORT_IND, 0))
+    let at = l.at;
+    close_when(l, at[4] != LI_IDLE, 2, ABORT_IND, 0)
 }
 
 pub fn end_confirm(l: Link) -> Answer
@@ -83,9 +66,10 @@ pub fn end_confirm(l: Link) -> Answer
     if !is_good(l) {
         return refuse(l, 29);
     }
-    let li = l.li;
-    if li != LI_END {
+    let at = l.at;
+    if at[4] != LI_END {
         return refuse(l, 2);
     }
-    change(with_li(l, LI_IDLE))
+    let left = l.left;
+    change(l, perform(begin(at, left), li_over(), most_of(l), 0))
 }

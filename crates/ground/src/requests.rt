@@ -1,20 +1,18 @@
 // What the user of the link asks.
-use ground_answer::abort::Ending;
 use ground_answer::abort::close_when;
 use ground_answer::answer::*;
 use ground_answer::events::CANCEL_ALL;
 use ground_answer::events::request_event;
-use ground_answer::sent::nothing;
+use ground_answer::record::Link;
+use ground_answer::record::is_good;
+use ground_answer::record::most_of;
+use ground_answer::record::turn;
 use ground_answer::sent::write;
 use ground_tables::decide::decide;
+use ground_tables::decide::li_end;
+use ground_tables::names::*;
 use link::executor::perform;
-use link::record::LI_ACTIVE;
-use link::record::LI_END;
-use link::record::LI_IDLE;
-use link::record::LI_START;
-use link::record::Link;
-use link::record::is_good;
-use link::record::with_li;
+use link::executor::stop_all;
 use pdu::uplink::Ground;
 ghost use mathlib.Core.Path.{_≡_};
 ghost use Rattle.ground.specs.Requests.{asked, allCancelled, requested, userAborted};
@@ -23,7 +21,8 @@ ghost use Rattle.ground.specs.Requests.{asked, allCancelled, requested, 
 fn ask(l: Link, g: Ground, li: u8, entry: u8) -> Answer
     ensures { λ r. ⌜ r ≡ asked l g li entry ⌝ }
 {
-    let at = l.at;
+    let first = turn(l, li);
+    let at = first.at;
     let m = decide(at, request_event(g));
     let fate = m.fate;
     if fate != 0 {
@@ -34,26 +33,25 @@ fn ask(l: Link, g: Ground, li: u8, entry: u8) -> Answer
     if refusal != 0 {
         return refuse(l, refusal);
     }
-    let step = perform(with_li(l, li), m, entry);
-    let link = step.link;
-    let acts = step.acts;
     let sent = w.sent;
-    tell(link, 0, acts, sent)
+    tell(l, perform(first, m, most_of(l), entry), 0, sent)
 }
 
 fn cancel_all(l: Link) -> Answer
     ensures { λ r. ⌜ r ≡ allCancelled l ⌝ }
 {
-    let li = l.li;
+    if !is_good(l) {
+        return refuse(l, 29);
+    }
+    let at = l.at;
+    if at[4] != LI_ACTIVE {
+        return refuse(l, 1);
+    }
+    let left = l.left;
     let w = write(Ground::CancelAll);
     let sent = w.sent;
-    let end = Ending {
-        entry: END_REQUEST,
-        reason: 0,
-        li: LI_END,
-        sent,
-    };
-    close_when(l, li == LI_ACTIVE, 1, end)
+    let step = perform(stop_all(left, LI_ACTIVE), li_end(), most_of(l), END_REQUEST);
+    tell(l, step, 0, sent)
 }
 
 // A request: in LI-IDLE a start request, in ACTIVE a data request or, for cancel-all, the end request.
@@ -66,8 +64,8 @@ pub fn request(l: Link, g: Ground) -> Answer
     if !is_good(l) {
         return refuse(l, 29);
     }
-    let li = l.li;
-    match li {
+    let at = l.at;
+    match at[4] {
         LI_IDLE => ask(l, g, LI_START, START_REQUEST),
         LI_ACTIVE => ask(l, g, LI_ACTIVE, DATA_REQUEST),
         _ => refuse(l, 1),
@@ -78,13 +76,6 @@ pub fn request(l: Link, g: Ground) -> Answer
 pub fn user_abort(l: Link) -> Answer
     ensures { λ r. ⌜ r ≡ userAborted l ⌝ }
 {
-    let li = l.li;
-    let sent = nothing();
-    let end = Ending {
-        entry: ABORT_REQUEST,
-        reason: 0,
-        li: LI_IDLE,
-        sent,
-    };
-    close_when(l, li != LI_IDLE, 1, end)
+    let at = l.at;
+    close_when(l, at[4] != LI_IDLE, 1, ABORT_REQUEST, 0)
 }

@@ -16,7 +16,7 @@ use Rattle.pdu.specs.declared.uplink.Ground.{Ground}
 use Rattle.pdu.specs.UplinkTable.{groundC}
 use Rattle.pdu.proofs.UplinkBounds.{ground-most}
 use Rattle.pdu.specs.Answers.{Sends}
-use Rattle.ground_tables.proofs.Laws.{no-true}
+use Rattle.link.proofs.Laws.{no-true}
 use Rattle.ground_answer.specs.Sent.{sent, letterOf, outgoing}
 
 drop-blank : (n m : ℕ) → drop {A = ℕ} n (replicate m 0) ≡ replicate (m - n) 0

@@ -9,7 +9,7 @@ use Rattle.pdu.specs.declared.downlink.AirPdu.{AirPdu}
 use Rattle.pdu.specs.declared.AirAnswer.{AirAnswer}
 use Rattle.pdu.specs.declared.AirAnswer.the-variants.{Good, Refused}
 use Rattle.pdu.specs.Answers.{airReading}
-use Rattle.ground_tables.proofs.Laws.{no-true}
+use Rattle.link.proofs.Laws.{no-true}
 
 kind-of : AirAnswer → Air
 kind-of (Good k) = k

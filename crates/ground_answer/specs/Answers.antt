@@ -3,11 +3,11 @@
 use mathlib.Core.Bool.{Bool}
 use mathlib.Core.List.{[]}
 use Prim.Native.Nat.{ℕ}
-use Rattle.ground_tables.specs.Tests.{pick}
-use Rattle.ground_tables.specs.Acts.{acts}
-use Rattle.ground_tables.specs.declared.acts.Acts.{Acts}
-use Rattle.link.specs.Record.{good}
-use Rattle.link.specs.declared.record.Link.{Link}
+use Rattle.link.specs.Tests.{pick}
+use Rattle.link.specs.Acts.{acts}
+use Rattle.link.specs.declared.executor.Step.{Step}
+use Rattle.ground_answer.specs.Record.{good, followed}
+use Rattle.ground_answer.specs.declared.record.Link.{Link}
 use Rattle.ground_answer.specs.Sent.{sent}
 use Rattle.ground_answer.specs.declared.sent.Sent.{Sent}
 use Rattle.ground_answer.specs.declared.answer.Answer.{Answer}
@@ -38,13 +38,13 @@ LATE = 8
 abbrev pub refusal : Link → ℕ → Answer
 refusal l number = record { link = l; said = record { refusal = number; reason = 0; acts = acts []; sent = sent [] } }
 
--- an accepted call
-abbrev pub tells : Link → ℕ → Acts → Sent → Answer
-tells l reason a s = record { link = l; said = record { refusal = 0; reason = reason; acts = a; sent = s } }
+-- an accepted call: the step that it makes
+abbrev pub tells : Link → Step → ℕ → Sent → Answer
+tells l s reason octets = record { link = followed l s; said = record { refusal = 0; reason = reason; acts = s .acts; sent = octets } }
 
--- an accepted call without an action
-abbrev pub quietly : Link → Answer
-quietly l = tells l 0 (acts []) (sent [])
+-- with no abort shown and no PDU
+abbrev pub quietly : Link → Step → Answer
+quietly l s = tells l s 0 (sent [])
 
 -- 29 before any other refusal of a call on a link
 abbrev pub checked : Link → Answer → Answer

@@ -1,8 +1,9 @@
 -- The event that each PDU is, for the ground tables of 01.
 use Prim.Native.Nat.{ℕ, _+_, _*_}
 use lib.Dec.{eqb}
-use Rattle.ground_tables.specs.Tests.{pick}
-use Rattle.ground_tables.specs.Names.{DC, EC, PC, EM, request, cancel, modify, dc-report-ack, dc-report, dc-negative, dc-noncompliance, report-ack, report, positive, noncompliance, cancelled, negative, em-report, em-report-ack, em-positive, em-cancel}
+use Rattle.link.specs.Tests.{pick}
+use Rattle.link.specs.Names.{DC, EC, PC, EM}
+use Rattle.ground_tables.specs.Names.{request, cancel, modify, dc-report-ack, dc-report, dc-negative, dc-noncompliance, report-ack, report, positive, noncompliance, cancelled, negative, em-report, em-report-ack, em-positive, em-cancel}
 use Rattle.pdu.specs.declared.uplink.Ground.{Ground}
 use Rattle.pdu.specs.declared.uplink.Ground.the-variants.{CancelAll, CancelContract, CancelEmergencyAck, DemandContract, EventContract, ModifyEmergency, PeriodicContract}
 use Rattle.pdu.specs.declared.uplink.Ground as ground

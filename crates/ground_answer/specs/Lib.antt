@@ -1,5 +1,6 @@
 pub mod Events
 pub mod Sent
+pub mod Record
 pub mod Answers
 pub mod Aborts
 pub mod Fresh

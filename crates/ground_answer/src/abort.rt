@@ -1,34 +1,22 @@
 // The abort rule, and the other calls that stop everything.
 use crate::answer::*;
-use crate::sent::Sent;
+use crate::record::Link;
+use crate::record::is_good;
+use crate::sent::nothing;
 use crate::sent::write;
-use ground_tables::acts::push;
-use link::clock::stops;
-use link::record::LI_IDLE;
-use link::record::Link;
-use link::record::is_good;
-use link::record::quieted;
-use link::record::with_li;
+use ground_tables::names::LI_IDLE;
+use link::executor::add;
+use link::executor::stop_all;
 use pdu::uplink::Ground;
 ghost use mathlib.Core.Path.{_≡_};
 ghost use Rattle.ground_answer.specs.Aborts.{closed, aborted, closedWhen};
 
-// How everything stops: the entry after the stops, the reason it shows, LI's state then, and the PDU that goes.
-pub struct Ending {
-    pub entry: u8,
-    pub reason: u32,
-    pub li: u8,
-    pub sent: Sent,
-}
-
-fn close(l: Link, e: Ending) -> Answer
-    ensures { λ r. ⌜ r ≡ closed l e ⌝ }
+// One entry after the stops, and the reason that it shows.
+fn close(l: Link, entry: u8, reason: u32) -> Answer
+    ensures { λ r. ⌜ r ≡ closed l entry reason ⌝ }
 {
     let left = l.left;
-    let acts = push(stops(left), e.entry);
-    let link = with_li(quieted(l), e.li);
-    let sent = e.sent;
-    tell(link, e.reason, acts, sent)
+    tell(l, add(stop_all(left, LI_IDLE), entry), reason, nothing())
 }
 
 // Stops, abort request with the ground provider abort, abort indication, all IDLE.
@@ -36,16 +24,15 @@ pub fn abort(l: Link, reason: u32) -> Answer
     ensures { λ r. ⌜ r ≡ aborted l reason ⌝ }
 {
     let left = l.left;
-    let acts = push(push(stops(left), ABORT_REQUEST), ABORT_IND);
-    let link = quieted(l);
+    let step = add(add(stop_all(left, LI_IDLE), ABORT_REQUEST), ABORT_IND);
     let w = write(Ground::Abort(reason));
     let sent = w.sent;
-    tell(link, reason, acts, sent)
+    tell(l, step, reason, sent)
 }
 
 // Everything stops where it may; where not, the call is refused.
-pub fn close_when(l: Link, may: bool, number: u8, e: Ending) -> Answer
-    ensures { λ r. ⌜ r ≡ closedWhen l may number e ⌝ }
+pub fn close_when(l: Link, may: bool, number: u8, entry: u8, reason: u32) -> Answer
+    ensures { λ r. ⌜ r ≡ closedWhen l may number entry reason ⌝ }
 {
     if !is_good(l) {
         return refuse(l, 29);
@@ -53,5 +40,5 @@ pub fn close_when(l: Link, may: bool, number: u8, e: Ending) -> Answer
     if !may {
         return refuse(l, number);
     }
-    close(l, e)
+    close(l, entry, reason)
 }

@@ -1,9 +1,11 @@
 // What a call answers.
+use crate::record::Link;
+use crate::record::follow;
 use crate::sent::Sent;
 use crate::sent::nothing;
-use ground_tables::acts::Acts;
-use ground_tables::acts::none;
-use link::record::Link;
+use link::acts::Acts;
+use link::acts::none;
+use link::executor::Step;
 ghost use mathlib.Core.Path.{_≡_};
 ghost use Rattle.ground_answer.specs.Answers.{refusal, tells, quietly};
 
@@ -50,21 +52,24 @@ pub fn refuse(l: Link, number: u8) -> Answer
     Answer { link: l, said }
 }
 
-pub fn tell(l: Link, reason: u32, acts: Acts, sent: Sent) -> Answer
-    ensures { λ r. ⌜ r ≡ tells l reason acts sent ⌝ }
+// An accepted call, by the step that it makes.
+pub fn tell(l: Link, s: Step, reason: u32, sent: Sent) -> Answer
+    ensures { λ r. ⌜ r ≡ tells l s reason sent ⌝ }
 {
+    let link = follow(l, s);
+    let acts = s.acts;
     let said = Said {
         refusal: 0,
         reason,
         acts,
         sent,
     };
-    Answer { link: l, said }
+    Answer { link, said }
 }
 
-// An accepted call that does nothing but change the link.
-pub fn change(l: Link) -> Answer
-    ensures { λ r. ⌜ r ≡ quietly l ⌝ }
+// With no abort shown and no PDU.
+pub fn change(l: Link, s: Step) -> Answer
+    ensures { λ r. ⌜ r ≡ quietly l s ⌝ }
 {
-    tell(l, 0, none(), nothing())
+    tell(l, s, 0, nothing())
 }

@@ -1,10 +1,11 @@
 // The clock.
 use crate::abort::abort;
 use crate::answer::*;
+use crate::record::Link;
+use crate::record::is_good;
 use link::clock::after;
 use link::clock::none_due;
-use link::record::Link;
-use link::record::is_good;
+use link::executor::begin;
 ghost use mathlib.Core.Path.{_≡_};
 ghost use Rattle.ground_answer.specs.Clock.{elapsed};
 
@@ -18,9 +19,10 @@ pub fn elapse(l: Link, n: u32) -> Answer
     if 86400 < n {
         return refuse(l, 4);
     }
+    let at = l.at;
     let left = l.left;
     if none_due(n, left) {
-        change(after(l, n))
+        change(l, begin(at, after(n, left)))
     } else {
         abort(l, 4)
     }

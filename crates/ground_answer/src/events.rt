@@ -3,7 +3,7 @@ use ground_tables::names::*;
 use pdu::downlink::Air;
 use pdu::uplink::Ground;
 ghost use mathlib.Core.Path.{_≡_};
-ghost use Rattle.ground_tables.specs.Tests.{pick};
+ghost use Rattle.link.specs.Tests.{pick};
 ghost use Rattle.ground_answer.specs.Events.{of, negativeEvent, positiveEvent, unmetEvent, airEvent, cancelEvent, requestEvent, reasonIn};
 
 // The first event of each module.

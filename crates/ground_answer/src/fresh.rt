@@ -1,8 +1,11 @@
 // A new link.
-use link::record::Link;
-use link::record::is_good;
+use crate::record::Link;
+use crate::record::make;
+use link::moves::TIMERS;
+use link::watch::settings_ok;
 ghost use mathlib.Core.Path.{_≡_};
-ghost use Rattle.ground_answer.specs.Fresh.{fresh, opened};
+ghost use Rattle.ground_answer.specs.Record.{fresh};
+ghost use Rattle.ground_answer.specs.Fresh.{opened};
 
 // `refusal` is 0, or 3 beside a record of zeros, which every call refuses with 29.
 pub struct Opened {
@@ -10,28 +13,21 @@ pub struct Opened {
     pub link: Link,
 }
 
-fn idle_link(setting: [u32; 9]) -> Link
+// Everything IDLE, no timer running.
+pub fn idle_link(setting: [u32; TIMERS]) -> Link
     ensures { λ r. ⌜ r ≡ fresh setting ⌝ }
 {
-    Link {
-        setting,
-        left: [0; 9],
-        at: [0; 4],
-        li: 0,
-    }
+    make(setting, [0; TIMERS], [0; 5])
 }
 
 // A link from the nine settings in watch order, each 1..86,400 seconds.
-pub fn open(setting: [u32; 9]) -> Opened
+pub fn open(setting: [u32; TIMERS]) -> Opened
     ensures { λ r. ⌜ r ≡ opened setting ⌝ }
 {
-    let link = idle_link(setting);
-    if is_good(link) {
+    if settings_ok(setting) {
+        let link = idle_link(setting);
         return Opened { refusal: 0, link };
     }
-    let blank = idle_link([0; 9]);
-    Opened {
-        refusal: 3,
-        link: blank,
-    }
+    let link = idle_link([0; TIMERS]);
+    Opened { refusal: 3, link }
 }

@@ -4,7 +4,7 @@ use ground::call::answer;
 use ground_answer::answer::Answer;
 use ground_answer::answer::Said;
 use ground_answer::clock::elapse;
-use link::record::Link;
+use ground_answer::record::Link;
 ghost use mathlib.Core.Path.{_≡_};
 ghost use Rattle.ground_answer.specs.Clock.{elapsed};
 ghost use Rattle.ground.specs.Runs.{answered};

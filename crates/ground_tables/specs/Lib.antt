@@ -1,5 +1,4 @@
-pub mod Tests
 pub mod Names
 pub mod Watch
 pub mod Moves
-pub mod Acts
+pub mod Tables

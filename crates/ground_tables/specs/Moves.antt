@@ -1,52 +1,13 @@
 -- The ground tables of 01, a row for each clause: at a state, on an event, what is done.
-use mathlib.Core.Bool.{Bool, true, false}
 use mathlib.Core.List.{List, [], _∷_}
 use Prim.Native.Nat.{ℕ, _-_}
 use lib.ListN.{getD}
-use lib.Dec.{eqb, leb}
-use Rattle.ground_tables.specs.Tests.{both, pick}
-use Rattle.ground_tables.specs.Names.{DC, EC, PC, EM, IDLE, DC-PENDING, DC-ACTIVE, START-PENDING, PENDING, ACTIVE, CANCEL, EM-ACTIVE, MODIFY, DC1, DC2, EC1, EC2, PC1, PC2, PC3, EM1, EM2, no-timer, request, dc-report-ack, dc-report, dc-negative, dc-noncompliance, cancel, report-ack, report, positive, noncompliance, cancelled, negative, modify, em-report, em-report-ack, em-positive, em-cancel}
-use Rattle.ground_tables.specs.declared.decide.Move.{Move}
-
--- a move: to a state of a module, with at most one timer stopped, an indication, a send and one timer started, in this order
-abbrev pub go : ℕ → ℕ → ℕ → Bool → Bool → ℕ → Move
-go who to stop ind send start = record { fate = 0; stop = stop; ind = ind; send = send; start = start; who = who; to = to }
-
--- the words of the rows
-abbrev pub to : ℕ → ℕ → Move
-to who state = go who state no-timer false false no-timer
-
-abbrev pub stop : ℕ → Move → Move
-stop t m = go (m .who) (m .to) t (m .ind) (m .send) (m .start)
-
-abbrev pub ind : Move → Move
-ind m = go (m .who) (m .to) (m .stop) true (m .send) (m .start)
-
-abbrev pub send : Move → Move
-send m = go (m .who) (m .to) (m .stop) (m .ind) true (m .start)
-
-abbrev pub start : ℕ → Move → Move
-start t m = go (m .who) (m .to) (m .stop) (m .ind) (m .send) t
-
--- "Downlink data not listed for a state: abort 3. Requests not listed: refusal 1."
-abbrev pub still : ℕ → Move
-still fate = record { fate = fate; stop = no-timer; ind = false; send = false; start = no-timer; who = 0; to = 0 }
-
-abbrev pub unlisted : ℕ → Move
-unlisted event = pick (leb event 3) (still 1) (still 3)
-
-pub record Row : Type 0 where
-  pub state : ℕ
-  pub event : ℕ
-  pub does : Move
-
-abbrev pub row : ℕ → ℕ → Move → Row
-row s e m = record { state = s; event = e; does = m }
-
--- the move of the first row for the state and the event
-abbrev pub look : List Row → ℕ → ℕ → Move → Move
-look [] s e other = other
-look (r ∷ rs) s e other = pick (both (eqb s (r .state)) (eqb e (r .event))) (r .does) (look rs s e other)
+use lib.Dec.{eqb}
+use Rattle.link.specs.Tests.{pick}
+use Rattle.link.specs.Names.{no-timer, DC, EC, PC, EM, LI}
+use Rattle.link.specs.Moves.{Row, row, look, to, stop, ind, send, start, unlisted}
+use Rattle.link.specs.declared.moves.Move.{Move}
+use Rattle.ground_tables.specs.Names.{IDLE, DC-PENDING, DC-ACTIVE, START-PENDING, PENDING, ACTIVE, CANCEL, EM-ACTIVE, MODIFY, DC1, DC2, EC1, EC2, PC1, PC2, PC3, EM1, EM2, LI-IDLE, LI-END, request, dc-report-ack, dc-report, dc-negative, dc-noncompliance, cancel, report-ack, report, positive, noncompliance, cancelled, negative, modify, em-report, em-report-ack, em-positive, em-cancel}
 
 -- "IDLE: request, send, start DC1, PENDING. PENDING: report with ack, stop DC1, report ind, IDLE; negative ack (demand), stop, confirm, IDLE; demand
 -- noncompliance, stop, confirm, start DC2, ACTIVE. ACTIVE: report without ack, stop DC2, ind, IDLE."
@@ -116,11 +77,16 @@ pc2Quiet at = pick (eqb (getD at EM 0) IDLE) PC2 no-timer
 abbrev pub pc2Active : List ℕ → ℕ
 pc2Active at = pick (eqb (getD at PC 0) ACTIVE) PC2 no-timer
 
--- events come in groups of 16: DC from 0, EC from 16, PC from 32, EM from 48; from 64 on they are of no module, the requests among them below 68
-unfoldable pub moveOf : List ℕ → ℕ → Move
-moveOf at e =
-    pick (leb e 15) (dcMove (getD at DC 0) e)
-    (pick (leb e 31) (contractMove EC EC1 EC2 no-timer (getD at EC 0) (e - 16))
-    (pick (leb e 47) (contractMove PC PC1 PC3 (pc2Quiet at) (getD at PC 0) (e - 32))
-    (pick (leb e 63) (emMove (pc2Active at) (getD at EM 0) (e - 48))
-    (unlisted (e - 64)))))
+-- the rows of each module at the present states, in the order of the modules
+unfoldable pub groundRows : List ℕ → List (List Row)
+groundRows at = dcRows ∷ contractRows EC EC1 EC2 no-timer ∷ contractRows PC PC1 PC3 (pc2Quiet at) ∷ emRows (pc2Active at) ∷ []
+
+-- LI's own moves: to a state; the end request; the end confirm
+abbrev pub liTo : ℕ → Move
+liTo k = to LI k
+
+abbrev pub liEnd : Move
+liEnd = send (to LI LI-END)
+
+abbrev pub liOver : Move
+liOver = to LI LI-IDLE

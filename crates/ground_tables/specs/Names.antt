@@ -1,20 +1,7 @@
--- The numbers of modules, states, timers and events, under the names of 01.
+-- The numbers of states, timers and events, under the names of 01.
 use Prim.Native.Nat.{ℕ}
 
--- modules
-abbrev pub DC : ℕ
-DC = 0
-
-abbrev pub EC : ℕ
-EC = 1
-
-abbrev pub PC : ℕ
-PC = 2
-
-abbrev pub EM : ℕ
-EM = 3
-
--- states: DC has IDLE, PENDING and ACTIVE; EC and PC have IDLE, START-PENDING, PENDING, ACTIVE and CANCEL; EM has IDLE, ACTIVE and MODIFY.
+-- states: DC has IDLE, PENDING and ACTIVE; EC and PC have IDLE, START-PENDING, PENDING, ACTIVE and CANCEL; EM has IDLE, ACTIVE and MODIFY; LI has IDLE, START, ACTIVE and END.
 -- They are numbered so that the states of each timer stand together
 abbrev pub IDLE : ℕ
 IDLE = 0
@@ -43,6 +30,18 @@ EM-ACTIVE = 1
 abbrev pub MODIFY : ℕ
 MODIFY = 2
 
+abbrev pub LI-IDLE : ℕ
+LI-IDLE = 0
+
+abbrev pub LI-START : ℕ
+LI-START = 1
+
+abbrev pub LI-ACTIVE : ℕ
+LI-ACTIVE = 2
+
+abbrev pub LI-END : ℕ
+LI-END = 3
+
 -- timers, in watch order
 abbrev pub DC1 : ℕ
 DC1 = 0
@@ -70,9 +69,6 @@ EM1 = 7
 
 abbrev pub EM2 : ℕ
 EM2 = 8
-
-abbrev pub no-timer : ℕ
-no-timer = 9
 
 -- events of a module, requests below 4 and downlink data from 4 on. DC: request; report with ack, plain report, negative ack, noncompliance
 abbrev pub request : ℕ

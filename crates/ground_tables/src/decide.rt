@@ -1,50 +1,14 @@
 // The decisions: for each module one, over the numbers of its state and of the event. What no arm lists falls to the abort case, or for
 // a request to refusal 1.
 use crate::names::*;
+use link::moves::*;
 ghost use mathlib.Core.Path.{_≡_};
 ghost use lib.Dec.{eqb};
-ghost use Rattle.ground_tables.specs.Tests.{pick};
-ghost use Rattle.ground_tables.specs.Moves.{go, unlisted, dcMove, contractMove, emMove, moveOf};
-
-// `fate` is 0 for a move that goes, 1 for a request that is refused with 1, 3 for data that is abort 3. 9 is no timer.
-pub struct Move {
-    pub fate: u8,
-    pub stop: u8,
-    pub ind: bool,
-    pub send: bool,
-    pub start: u8,
-    pub who: u8,
-    pub to: u8,
-}
-
-fn go(who: u8, to: u8, stop: u8, ind: bool, send: bool, start: u8) -> Move
-    ensures { λ r. ⌜ r ≡ go who to stop ind send start ⌝ }
-{
-    Move {
-        fate: 0,
-        stop,
-        ind,
-        send,
-        start,
-        who,
-        to,
-    }
-}
-
-fn unlisted(kind: u8) -> Move
-    ensures { λ r. ⌜ r ≡ unlisted kind ⌝ }
-{
-    let fate: u8 = if kind <= 3 { 1 } else { 3 };
-    Move {
-        fate,
-        stop: NO_TIMER,
-        ind: false,
-        send: false,
-        start: NO_TIMER,
-        who: 0,
-        to: 0,
-    }
-}
+ghost use Rattle.link.specs.Names.{no-timer};
+ghost use Rattle.link.specs.Tests.{pick};
+ghost use Rattle.sides.specs.Tables.{moveOf};
+ghost use Rattle.ground_tables.specs.Moves.{dcMove, contractMove, emMove, liTo, liEnd, liOver};
+ghost use Rattle.ground_tables.specs.Tables.{groundTables};
 
 fn dc_move(state: u8, kind: u8) -> Move
     ensures { λ r. ⌜ r ≡ dcMove state kind ⌝ }
@@ -128,14 +92,14 @@ fn em_move(p: u8, state: u8, kind: u8) -> Move
 
 // PC2 where a state is the one wanted, else none.
 fn pc2_if(state: u8, wanted: u8) -> u8
-    ensures { λ r. ⌜ r ≡ pick (eqb state wanted) 5 9 ⌝ }
+    ensures { λ r. ⌜ r ≡ pick (eqb state wanted) 5 no-timer ⌝ }
 {
     if state == wanted { PC2 } else { NO_TIMER }
 }
 
 // The decision over the modules' states and the event's number: 16 numbers for each module; data of no module is abort 3.
-pub fn decide(at: [u8; 4], event: u8) -> Move
-    ensures { λ r. ⌜ r ≡ moveOf at event ⌝ }
+pub fn decide(at: [u8; 5], event: u8) -> Move
+    ensures { λ r. ⌜ r ≡ moveOf groundTables at event ⌝ }
 {
     match event {
         0..=15 => dc_move(at[0], event),
@@ -144,4 +108,23 @@ pub fn decide(at: [u8; 4], event: u8) -> Move
         48..=63 => em_move(pc2_if(at[2], ACTIVE), at[3], event - 48),
         _ => unlisted(event - 64),
     }
+}
+
+// LI's own moves: to a state, the end request, the end confirm.
+pub fn li_to(k: u8) -> Move
+    ensures { λ r. ⌜ r ≡ liTo k ⌝ }
+{
+    go(LI, k, NO_TIMER, false, false, NO_TIMER)
+}
+
+pub fn li_end() -> Move
+    ensures { λ r. ⌜ r ≡ liEnd ⌝ }
+{
+    go(LI, LI_END, NO_TIMER, false, true, NO_TIMER)
+}
+
+pub fn li_over() -> Move
+    ensures { λ r. ⌜ r ≡ liOver ⌝ }
+{
+    go(LI, LI_IDLE, NO_TIMER, false, false, NO_TIMER)
 }

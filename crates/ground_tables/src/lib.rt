@@ -1,5 +1,4 @@
-// What DC, EC, PC and EM do at an event, the watch table, and lists of actions. Knows no PDU and no link.
-pub mod acts;
+// What DC, EC, PC, EM and LI do at an event, and the watch table. Knows no PDU and no link record.
 pub mod decide;
 pub mod names;
 pub mod watch;

@@ -1,13 +1,4 @@
-// The numbers of modules, states, timers and events, under the names of 01.
-
-// modules
-pub const DC: u8 = 0;
-
-pub const EC: u8 = 1;
-
-pub const PC: u8 = 2;
-
-pub const EM: u8 = 3;
+// The numbers of states, timers and events, under the names of 01.
 
 // states
 pub const IDLE: u8 = 0;
@@ -28,6 +19,17 @@ pub const EM_ACTIVE: u8 = 1;
 
 pub const MODIFY: u8 = 2;
 
+pub const LI_IDLE: u8 = 0;
+
+pub const LI_START: u8 = 1;
+
+pub const LI_ACTIVE: u8 = 2;
+
+pub const LI_END: u8 = 3;
+
+// the last state of each module
+pub const TOPS: [u8; 5] = [DC_ACTIVE, CANCEL, CANCEL, MODIFY, LI_END];
+
 // timers, in watch order
 pub const DC1: u8 = 0;
 
@@ -46,8 +48,6 @@ pub const PC3: u8 = 6;
 pub const EM1: u8 = 7;
 
 pub const EM2: u8 = 8;
-
-pub const NO_TIMER: u8 = 9;
 
 // events of DC
 pub const REQUEST: u8 = 0;

@@ -1,12 +1,14 @@
 // The watch table: which timer runs at which states of the modules.
 use crate::names::*;
+use link::moves::*;
+use link::watch::Watch;
 ghost use mathlib.Core.Path.{_≡_};
-ghost use Rattle.ground_tables.specs.Watch.{runs};
+ghost use Rattle.ground_tables.specs.Watch.{groundWatch};
 
 // The module of each timer, the first and the last of its states, and the last state of EM at which it runs.
-const MODULE: [u8; 9] = [DC, DC, EC, EC, PC, PC, PC, EM, EM];
+const MODULE: [u8; TIMERS] = [DC, DC, EC, EC, PC, PC, PC, EM, EM];
 
-const FIRST: [u8; 9] = [
+const FIRST: [u8; TIMERS] = [
     DC_PENDING,
     DC_ACTIVE,
     START_PENDING,
@@ -18,7 +20,7 @@ const FIRST: [u8; 9] = [
     MODIFY,
 ];
 
-const LAST: [u8; 9] = [
+const LAST: [u8; TIMERS] = [
     DC_PENDING,
     DC_ACTIVE,
     PENDING,
@@ -30,7 +32,7 @@ const LAST: [u8; 9] = [
     MODIFY,
 ];
 
-const EM_LAST: [u8; 9] = [
+const EM_LAST: [u8; TIMERS] = [
     MODIFY,
     MODIFY,
     MODIFY,
@@ -42,20 +44,13 @@ const EM_LAST: [u8; 9] = [
     MODIFY,
 ];
 
-// Whether timer t runs at the modules' states; there are nine timers.
-pub fn watched(t: usize, at: [u8; 4]) -> bool
-    ensures { λ r. ⌜ r ≡ runs t at ⌝ }
+pub fn watch() -> Watch
+    ensures { λ r. ⌜ r ≡ groundWatch ⌝ }
 {
-    if 8 < t {
-        return false;
+    Watch {
+        who: MODULE,
+        first: FIRST,
+        last: LAST,
+        em: EM_LAST,
     }
-    let m = MODULE[t] as usize;
-    let s = at[m];
-    if s < FIRST[t] {
-        return false;
-    }
-    if LAST[t] < s {
-        return false;
-    }
-    at[3] <= EM_LAST[t]
 }

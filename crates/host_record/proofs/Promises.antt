@@ -7,15 +7,16 @@ use lib.Dec.{eqb, ltb}
 use lib.ListN.{length, replicate}
 use lib.Seq.{sets}
 use borrow.Author.Tests.{eq-eqb}
-use Rattle.ground_tables.specs.Tests.{pick}
-use Rattle.ground_tables.proofs.Laws.{no-true}
-use Rattle.link.specs.declared.record.Link.{Link}
-use Rattle.ground.proofs.Keeps.{Shaped, Sound}
+use Rattle.link.specs.Tests.{pick}
+use Rattle.link.proofs.Laws.{no-true}
+use Rattle.ground_answer.specs.declared.record.Link.{Link}
+use Rattle.sides.specs.Runs.{after}
+use Rattle.ground.proofs.Keeps.{Fine}
 use Rattle.ground_answer.specs.declared.answer.Answer.{Answer}
 use Rattle.ground.specs.declared.call.Call.{Call}
-use Rattle.ground.specs.Runs.{answered, Made, reply, after}
+use Rattle.ground.specs.Runs.{answered, Made, reply, ground}
 use Rattle.ground.proofs.Promises.{refused-still}
-use Rattle.ground.proofs.Demand3.{after-sound}
+use Rattle.ground.proofs.Demand3.{after-fine}
 use Rattle.host_record.specs.RecordLayout.{linkOf, recordOctets}
 use Rattle.host_record.specs.AnswerLayout.{answerOctets}
 use Rattle.host_record.specs.laws.Back.{record-back}
@@ -60,9 +61,9 @@ host-still call octets s o = go (eqb (length s) 77)
     go false h = refl
 
 -- ---- "calls on the record's octets are the calls by value": over every sequence of calls, so every promise of the link holds of the host's record
-record-long : (l : Link) → Shaped l → length (recordOctets l) ≡ 77
+record-long : (l : Link) → Fine l → length (recordOctets l) ≡ 77
 unfolding recordOctets
-record-long l s = length-record (l .setting) (l .left) (l .at) (l .li) (s .settings) (s .lefts)
+record-long l s = length-record (l .setting) (l .left) (l .at) (s .settings) (s .lefts)
 
 told-link : (l : Link) (c : Made) → told (recordOctets l) (replicate 22 0) (reply l c) .link ≡ recordOctets (reply l c .link)
 unfolding told
@@ -78,12 +79,12 @@ told-link l c = go (eqb (reply l c .said .refusal) 0) refl
     go true e = refl
     go false e = ap (λ (a : Answer). recordOctets (a .link)) (sym (refused-still l c e))
 
-host-step : (l : Link) (c : Made) → Shaped l → hosted (c .call) (c .octets) (recordOctets l) (replicate 22 0) .link ≡ recordOctets (reply l c .link)
+host-step : (l : Link) (c : Made) → Fine l → hosted (c .call) (c .octets) (recordOctets l) (replicate 22 0) .link ≡ recordOctets (reply l c .link)
 unfolding hosted
 host-step l c s = rw (eq-eqb (length (recordOctets l)) 77 (record-long l s), record-back l (s .settings) (s .lefts) (s .states)) (told-link l c)
 
-pub host-run : (l : Link) (cs : List Made) → Sound l → kept (recordOctets l) cs ≡ recordOctets (after l cs)
+pub host-run : (l : Link) (cs : List Made) → Fine l → kept (recordOctets l) cs ≡ recordOctets (after ground l cs)
 unfolding kept after
 host-run l [] s = refl
 host-run l (c ∷ cs) s =
-    ap (λ (x : List ℕ). kept x cs) (host-step l c (s .shape)) ∙ host-run (reply l c .link) cs (after-sound l (c ∷ []) s)
+    ap (λ (x : List ℕ). kept x cs) (host-step l c s) ∙ host-run (reply l c .link) cs (after-fine l (c ∷ []) s)

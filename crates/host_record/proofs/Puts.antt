@@ -6,8 +6,9 @@ use native.Mathlib.Omega.{arith}
 use lib.ListN.{length, getD, set, drop, length-append, drop-of-length-le}
 use lib.Seq.{sets, sets-eq, drop-cons}
 use borrow.Author.Tests.{eq-eqb, ne-eqb}
-use Rattle.link.specs.declared.record.Link.{Link}
-use Rattle.host_record.specs.RecordLayout.{quad, quads, four, recordOctets, wordAt, words, saved}
+use Rattle.link.specs.Names.{timers}
+use Rattle.ground_answer.specs.declared.record.Link.{Link}
+use Rattle.host_record.specs.RecordLayout.{quad, quads, five, recordOctets, wordAt, words, saved}
 use Rattle.host_record.specs.laws.Back.{length-quads}
 
 add-one : (i : ℕ) → i + 1 ≡ suc i
@@ -54,19 +55,19 @@ words-step l s i n =
     ∙ ap (sets l 0) (words-more s i n ∙ ap (words s i) (sym (add-one n)))
 
 -- ---- the whole record
-pub length-record : (a b at : List ℕ) (li : ℕ) → length a ≡ 9 → length b ≡ 9 → length (quads a ++ (quads b ++ four at li)) ≡ 77
-length-record a b at li h k =
-    length-append (quads a) (quads b ++ four at li)
-    ∙ omega (arith, length-quads a, length-append (quads b) (four at li), length-quads b)
+pub length-record : (a b at : List ℕ) → length a ≡ timers → length b ≡ timers → length (quads a ++ (quads b ++ five at)) ≡ 77
+length-record a b at h k =
+    length-append (quads a) (quads b ++ five at)
+    ∙ omega (arith, length-quads a, length-append (quads b) (five at), length-quads b)
 
-pub record-whole : (out a b at : List ℕ) (li : ℕ) → length out ≡ 77 → length a ≡ 9 → length b ≡ 9
-    → sets (sets (sets out 0 (quads a)) 36 (quads b)) 72 (four at li) ≡ quads a ++ (quads b ++ four at li)
-record-whole out a b at li n h k =
-    let whole = quads a ++ (quads b ++ four at li) in
-    let e = length-record a b at li h k in
+pub record-whole : (out a b at : List ℕ) → length out ≡ 77 → length a ≡ timers → length b ≡ timers
+    → sets (sets (sets out 0 (quads a)) 36 (quads b)) 72 (five at) ≡ quads a ++ (quads b ++ five at)
+record-whole out a b at n h k =
+    let whole = quads a ++ (quads b ++ five at) in
+    let e = length-record a b at h k in
     let m : length out ≤ 0 + length whole = omega (arith, e) in
-    sets-append (quads b) (four at li) (sets out 0 (quads a)) 36 72 (omega (arith, length-quads b))
-    ∙ sets-append (quads a) (quads b ++ four at li) out 0 36 (omega (arith, length-quads a))
+    sets-append (quads b) (five at) (sets out 0 (quads a)) 36 72 (omega (arith, length-quads b))
+    ∙ sets-append (quads a) (quads b ++ five at) out 0 36 (omega (arith, length-quads a))
     ∙ sets-eq whole out 0 (omega (arith, e))
     ∙ ap (λ (r : List ℕ). whole ++ r) (drop-of-length-le out m)
     ∙ append-nil whole

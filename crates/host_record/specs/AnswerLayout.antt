@@ -3,7 +3,7 @@ use mathlib.Core.List.{List, [], _∷_}
 use Prim.Native.Nat.{ℕ, _/_, _%_}
 use lib.Dec.{ltb}
 use lib.ListN.{getD}
-use Rattle.ground_tables.specs.Tests.{pick}
+use Rattle.link.specs.Tests.{pick}
 use Rattle.ground_answer.specs.declared.answer.Said.{Said}
 
 -- "An action list has at most 8 entries", and no PDU that is sent has more than eight octets

@@ -5,7 +5,7 @@ use Prim.Native.Nat.{ℕ}
 use lib.Dec.{eqb, ltb}
 use lib.ListN.{length, getD, replicate}
 use lib.Seq.{sets}
-use Rattle.ground_tables.specs.Tests.{pick}
+use Rattle.link.specs.Tests.{pick}
 use Rattle.ground_answer.specs.declared.answer.Answer.{Answer}
 use Rattle.ground_answer.specs.declared.fresh.Opened.{Opened}
 use Rattle.ground.specs.declared.call.Call.{Call}

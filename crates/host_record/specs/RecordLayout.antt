@@ -3,8 +3,10 @@ use mathlib.Core.List.{List, [], _∷_, _++_}
 use Prim.Native.Nat.{ℕ, zero, suc, _+_, _*_, _/_, _%_}
 use lib.Dec.{eqb}
 use lib.ListN.{length, getD}
-use Rattle.ground_tables.specs.Tests.{pick}
-use Rattle.link.specs.declared.record.Link.{Link}
+use Rattle.link.specs.Tests.{pick}
+use Rattle.link.specs.Names.{timers}
+use Rattle.ground_answer.specs.Record.{made}
+use Rattle.ground_answer.specs.declared.record.Link.{Link}
 
 -- a number below 2^32 in four octets
 abbrev pub quad : ℕ → List ℕ
@@ -14,13 +16,13 @@ abbrev pub quads : List ℕ → List ℕ
 quads [] = []
 quads (w ∷ ws) = w / 16777216 ∷ w / 65536 % 256 ∷ w / 256 % 256 ∷ w % 256 ∷ quads ws
 
--- the four states and LI's
-abbrev pub four : List ℕ → ℕ → List ℕ
-four at li = getD at 0 0 ∷ getD at 1 0 ∷ getD at 2 0 ∷ getD at 3 0 ∷ li ∷ []
+-- the five states
+abbrev pub five : List ℕ → List ℕ
+five at = getD at 0 0 ∷ getD at 1 0 ∷ getD at 2 0 ∷ getD at 3 0 ∷ getD at 4 0 ∷ []
 
--- 0 to 35 the nine settings in watch order; 36 to 71 the seconds left; 72 to 75 the states of DC, EC, PC and EM; 76 the state of LI
+-- 0 to 35 the nine settings in watch order; 36 to 71 the seconds left; 72 to 76 the states of DC, EC, PC, EM and LI
 unfoldable pub recordOctets : Link → List ℕ
-recordOctets l = quads (l .setting) ++ (quads (l .left) ++ four (l .at) (l .li))
+recordOctets l = quads (l .setting) ++ (quads (l .left) ++ five (l .at))
 
 -- and back; octets that are not there are 0
 abbrev pub wordAt : List ℕ → ℕ → ℕ
@@ -31,13 +33,7 @@ words s i zero = []
 words s i (suc n) = wordAt s i ∷ words s (i + 4) n
 
 unfoldable pub linkOf : List ℕ → Link
-linkOf s =
-    record {
-      setting = words s 0 9;
-      left = words s 36 9;
-      at = getD s 72 0 ∷ getD s 73 0 ∷ getD s 74 0 ∷ getD s 75 0 ∷ [];
-      li = getD s 76 0;
-    }
+linkOf s = made (words s 0 timers) (words s 36 timers) (getD s 72 0 ∷ getD s 73 0 ∷ getD s 74 0 ∷ getD s 75 0 ∷ getD s 76 0 ∷ [])
 
 -- a record into the octets of one; other than 77 octets are no record, and stay
 unfoldable pub saved : Link → List ℕ → List ℕ

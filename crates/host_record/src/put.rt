@@ -1,4 +1,5 @@
 // Numbers of four octets into lent octets, the most significant octet first.
+use link::moves::TIMERS;
 ghost use mathlib.Core.Path.{_≡_};
 ghost use Prim.Native.Nat.{_+_, _≤_};
 ghost use lib.ListN.{length};
@@ -15,12 +16,12 @@ fn put_word(out: &mut [u8], at: usize, w: u32)
     out[at + 3] = (w % 256) as u8;
 }
 
-pub(crate) fn put_words(out: &mut [u8], at: usize, ws: [u32; 9])
+pub(crate) fn put_words(out: &mut [u8], at: usize, ws: [u32; TIMERS])
     requires { ⌜ at + 36 ≤ length (now out) ⌝ }
     ensures { λ _. ⌜ now (out .exit) ≡ sets (now (out .entry)) at (quads ws) ⌝ }
 {
     let mut i: usize = 0;
-    while i < 9 {
+    while i < TIMERS {
         put_word(out, at + i * 4, ws[i]);
         i += 1;
     }

@@ -1,11 +1,14 @@
 // The link record in 77 octets, for a host that keeps it in its own memory.
 use crate::put::put_words;
-use link::record::Link;
+use ground_answer::record::Link;
+use ground_answer::record::make;
+use link::moves::TIMERS;
 ghost use mathlib.Core.Path.{_≡_};
 ghost use Prim.Native.Nat.{_≤_};
 ghost use lib.ListN.{length, getD};
 ghost use lib.Seq.{sets};
-ghost use Rattle.host_record.specs.RecordLayout.{wordAt, words, four, linkOf, recordOctets, saved};
+ghost use Rattle.link.specs.Names.{timers};
+ghost use Rattle.host_record.specs.RecordLayout.{wordAt, words, five, linkOf, recordOctets, saved};
 
 pub const RECORD: usize = 77;
 
@@ -33,13 +36,13 @@ fn word(s: &[u8], at: usize) -> u32
     ((a * 256 + b) * 256 + c) * 256 + d
 }
 
-fn words_at(s: &[u8], at: usize) -> [u32; 9]
+fn words_at(s: &[u8], at: usize) -> [u32; TIMERS]
     requires { ⌜ at ≤ 36 ⌝ }
-    ensures { λ r. ⌜ r ≡ words (now (s .entry)) at 9 ⌝ }
+    ensures { λ r. ⌜ r ≡ words (now (s .entry)) at timers ⌝ }
 {
-    let mut ws = [0u32; 9];
+    let mut ws = [0u32; TIMERS];
     let mut i: usize = 0;
-    while i < 9 {
+    while i < TIMERS {
         ws[i] = word(s, at + i * 4);
         i += 1;
     }
@@ -52,25 +55,25 @@ pub fn load(s: &[u8]) -> Link
 {
     let setting = words_at(s, 0);
     let left = words_at(s, 36);
-    let at = [octet(s, 72), octet(s, 73), octet(s, 74), octet(s, 75)];
-    let li = octet(s, 76);
-    Link {
-        setting,
-        left,
-        at,
-        li,
-    }
+    let at = [
+        octet(s, 72),
+        octet(s, 73),
+        octet(s, 74),
+        octet(s, 75),
+        octet(s, 76),
+    ];
+    make(setting, left, at)
 }
 
-fn put_states(out: &mut [u8], at: [u8; 4], li: u8)
+fn put_states(out: &mut [u8], at: [u8; 5])
     requires { ⌜ length (now out) ≡ 77 ⌝ }
-    ensures { λ _. ⌜ now (out .exit) ≡ sets (now (out .entry)) 72 (four at li) ⌝ }
+    ensures { λ _. ⌜ now (out .exit) ≡ sets (now (out .entry)) 72 (five at) ⌝ }
 {
     out[72] = at[0];
     out[73] = at[1];
     out[74] = at[2];
     out[75] = at[3];
-    out[76] = li;
+    out[76] = at[4];
 }
 
 fn store(l: Link, out: &mut [u8])
@@ -82,7 +85,7 @@ fn store(l: Link, out: &mut [u8])
     let at = l.at;
     put_words(out, 0, setting);
     put_words(out, 36, left);
-    put_states(out, at, l.li);
+    put_states(out, at);
 }
 
 // Octets that are no record's stay.

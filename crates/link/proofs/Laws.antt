@@ -1,19 +1,55 @@
--- Laws of tests over the timers, and of a list that is worked through from its start. Assumes nothing.
-use mathlib.Core.Path.{_≡_, refl, subst, sym, ap}
-use mathlib.Core.List.{List, [], _∷_, _++_, map, append-nil}
-use mathlib.Core.Bool.{Bool, true, false, not}
-use Prim.Native.Nat.{ℕ, zero, suc, _+_, _<_}
-use native.Mathlib.Nat.{not-suc-le-zero, le-of-suc-le-suc, eq-or-lt-of-le, le-of-eq}
+-- Laws of tests, of lists that are worked through from their start, and of lists of actions. Assumes nothing.
+use mathlib.Core.Path.{_≡_, refl, subst, sym, ap, _∙_}
+use mathlib.Core.Logic.{_⊎_, inl, inr}
+use mathlib.Core.Bool.{Bool, true, false}
+use mathlib.Core.List.{List, [], _∷_, _++_, map, append-nil, append-assoc}
+use Prim.Native.Nat.{ℕ, zero, suc, _+_, _-_, _<_, _≤_}
+use native.Mathlib.Omega.{arith}
+use native.Mathlib.Nat.{not-suc-le-zero, le-of-suc-le-suc, eq-or-lt-of-le, le-of-eq, le-refl}
 use native.Mathlib.Numerals.{add-one}
-use lib.Seq.{take-all}
-use lib.Dec.{T, eqb}
-use lib.ListN.{length, getD, set, take, drop, replicate, drop-of-length-le}
-use Rattle.ground_tables.specs.Tests.{both, below}
-use Rattle.ground_tables.specs.Watch.{runs}
-use Rattle.ground_tables.proofs.Laws.{cases, both-1}
+use borrow.Author.Tests.{lt-ltb}
+use lib.Seq.{take-all, set-append-seam}
+use lib.Dec.{T}
+use lib.ListN.{length, getD, set, take, drop, replicate, drop-of-length-le, length-append}
+use Rattle.link.specs.Tests.{both, pick, below}
+use Rattle.link.specs.Acts.{acts, pushed, pushedAll}
+use Rattle.link.specs.declared.acts.Acts.{Acts}
 
-pub both-pass : (a b x : Bool) → a ≡ true → b ≡ true → x ≡ both a (both b x)
-both-pass a b x p q = rw (p, q)
+-- `⊎-elim` with the sum first, so that each side's type is known where it is taken apart
+pub cases {ℓ κ μ} : {A : Type ℓ} {B : Type κ} {C : Type μ} → A ⊎ B → (A → C) → (B → C) → C
+cases (inl a) f g = f a
+cases (inr b) f g = g b
+
+pub no-true : true ≡ false → ⊥
+no-true e = subst T e tt
+
+pub both-left : (a b : Bool) → T (both a b) → T a
+both-left true b t = tt
+both-left false b t = t
+
+pub both-right : (a b : Bool) → T (both a b) → T b
+both-right true b t = t
+both-right false b t = absurd t
+
+-- a test that passes at each number below n passes at one of them
+pub below-at : (n : ℕ) (f : ℕ → Bool) → T (below n f) → (k : ℕ) → k < n → T (f k)
+below-at zero f t k h = absurd (not-suc-le-zero h)
+below-at (suc n) f t k h =
+    cases (eq-or-lt-of-le (le-of-suc-le-suc h))
+    (λ e. subst (λ (m : ℕ). T (f m)) (sym e) (both-left (f n) (below n f) t))
+    (λ l. below-at n f (both-right (f n) (below n f) t) k l)
+
+pub both-1 : (a x : Bool) → a ≡ false → false ≡ both a x
+both-1 a x p = rw p
+
+pub both-2 : (a b x : Bool) → a ≡ true → b ≡ false → false ≡ both a (both b x)
+both-2 a b x p q = rw (p, q)
+
+pub both-3 : (a b d x : Bool) → a ≡ true → b ≡ true → d ≡ false → false ≡ both a (both b (both d x))
+both-3 a b d x p q r = rw (p, q, r)
+
+pub both-4 : (a b d x : Bool) → a ≡ true → b ≡ true → d ≡ true → x ≡ both a (both b (both d x))
+both-4 a b d x p q r = rw (p, q, r)
 
 -- the test passes below i and at i: it passes below i + 1
 pub below-more : (f : ℕ → Bool) (i : ℕ) → below i f ≡ true → f i ≡ true → below (i + 1) f ≡ true
@@ -48,7 +84,55 @@ module _ (f : ℕ → ℕ) where
   pub mid-all : (l : List ℕ) (n : ℕ) → length l ≡ n → mid l n ≡ map f l
   mid-all l n e = rw (take-all n l (le-of-eq e), drop-of-length-le l (le-of-eq e)) (append-nil (map f l))
 
--- everything IDLE is good
-pub quiet-test : T (below 9 (λ t. both (not (runs t (replicate 4 0))) (eqb (getD (replicate 9 0) t 0) 0)))
-unfolding runs
-quiet-test = tt
+pub both-T : (a b : Bool) → T a → T b → T (both a b)
+both-T true b t u = u
+both-T false b t u = t
+
+pub below-all : (n : ℕ) (f : ℕ → Bool) → ((t : ℕ) → t < n → T (f t)) → T (below n f)
+below-all zero f h = tt
+below-all (suc n) f h = both-T (f n) (below n f) (h n (le-refl _)) (below-all n f (λ t l. h t (omega arith)))
+
+pub eq-T : (b : Bool) → b ≡ true → T b
+eq-T b e = subst T (sym e) tt
+
+pub T-eq : (b : Bool) → T b → b ≡ true
+T-eq true t = refl
+T-eq false t = absurd t
+
+-- pushes, one list after the other
+pub pushed-append : (a : Acts) (xs ys : List ℕ) → pushedAll a (xs ++ ys) ≡ pushedAll (pushedAll a xs) ys
+unfolding pushedAll
+pushed-append a [] ys = refl
+pushed-append a (x ∷ xs) ys = pushed-append (pushed a x) xs ys
+
+pub pushed-one : (a : Acts) (b : Bool) (x : ℕ) → pushedAll a (pick b (x ∷ []) []) ≡ pick b (pushed a x) a
+unfolding pushedAll
+pushed-one a true x = refl
+pushed-one a false x = refl
+
+pad-step : (l : List ℕ) (x n : ℕ) → length l < n
+    → set (l ++ replicate (n - length l) 0) (length l) x ≡ (l ++ (x ∷ [])) ++ replicate (n - length (l ++ (x ∷ []))) 0
+pad-step l x n h =
+    let e : n - length l ≡ suc (n - length (l ++ (x ∷ []))) = omega (arith, length-append l (x ∷ [])) in
+    rw e (set-append-seam l 0 (replicate (n - length (l ++ (x ∷ []))) 0) x ∙ sym (append-assoc l (x ∷ []) (replicate (n - length (l ++ (x ∷ []))) 0)))
+
+push-acts : (l : List ℕ) (x : ℕ) → length l < 8 → pushed (acts l) x ≡ acts (l ++ (x ∷ []))
+unfolding pushed acts
+push-acts l x h = rw (lt-ltb (length l) 8 h) (λ i. record { n = sym (length-append l (x ∷ [])) i; list = pad-step l x 8 h i })
+
+-- where there is room, the list grows at its end
+pub pushed-list : (l xs : List ℕ) → length l + length xs ≤ 8 → pushedAll (acts l) xs ≡ acts (l ++ xs)
+unfolding pushedAll
+pushed-list l [] h = ap acts (sym (append-nil l))
+pushed-list l (x ∷ xs) h =
+    ap (λ (a : Acts). pushedAll a xs) (push-acts l x (omega arith))
+    ∙ pushed-list (l ++ (x ∷ [])) xs (omega (arith, length-append l (x ∷ [])))
+    ∙ ap acts (append-assoc l (x ∷ []) xs)
+
+-- a chain of pushes: the first, and one more
+pub push-first : (s : Acts) {r : Acts} (b : Bool) (x : ℕ) → r ≡ pick b (pushed s x) s → r ≡ pushedAll s (pick b (x ∷ []) [])
+push-first s b x e = e ∙ sym (pushed-one s b x)
+
+pub push-next : (s : Acts) {a r : Acts} (l : List ℕ) (b : Bool) (x : ℕ) → a ≡ pushedAll s l → r ≡ pick b (pushed a x) a → r ≡ pushedAll s (l ++ pick b (x ∷ []) [])
+push-next s l b x h e =
+    e ∙ ap (λ (q : Acts). pick b (pushed q x) q) h ∙ sym (pushed-append s l (pick b (x ∷ []) []) ∙ pushed-one (pushedAll s l) b x)

@@ -1,31 +1,43 @@
--- What a move that goes does: its actions in the order of the rows, and the link after it.
-use mathlib.Core.List.{List, _++_}
+-- What a move that goes does: its actions in the order of the rows, the seconds and the states after it.
+use mathlib.Core.List.{List, [], _∷_, _++_}
 use Prim.Native.Nat.{ℕ, _+_}
 use lib.Dec.{ltb}
-use lib.ListN.{getD, set}
-use Rattle.ground_tables.specs.Acts.{acts, one}
-use Rattle.ground_tables.specs.declared.decide.Move.{Move}
-use Rattle.link.specs.declared.record.Link.{Link}
+use lib.ListN.{getD, set, replicate}
+use Rattle.link.specs.Acts.{acts, pushed, pushedAll, one}
+use Rattle.link.specs.Clock.{stopsOf}
+use Rattle.link.specs.declared.moves.Move.{Move}
+use Rattle.link.specs.Names.{timers}
 use Rattle.link.specs.declared.executor.Step.{Step}
 
--- stop (16 and the timer), indication (5), send, start (32 and the timer); 9 is no timer
+-- stop (16 and the timer), indication (5), send, start (32 and the timer)
 unfoldable pub actsOf : Move → ℕ → List ℕ
 actsOf m send =
-    one (ltb (m .stop) 9) (16 + m .stop) ++ one (m .ind) 5 ++ one (m .send) send ++ one (ltb (m .start) 9) (32 + m .start)
-
--- "A start loads the timer's setting."
-unfoldable pub loads : Link → ℕ → ℕ
-loads l t = getD (l .setting) t 0
+    one (ltb (m .stop) timers) (16 + m .stop) ++ one (m .ind) 5 ++ one (m .send) send ++ one (ltb (m .start) timers) (32 + m .start)
 
 -- a stopped timer has none left, a started one what the start loads; a place past the last changes nothing
-unfoldable pub moved : Link → Move → Link
-moved l m =
+unfoldable pub leftAfter : List ℕ → Move → List ℕ → List ℕ
+leftAfter left m most = set (set left (m .stop) 0) (m .start) (getD most (m .start) 0)
+
+unfoldable pub performed : Step → Move → List ℕ → ℕ → Step
+performed s m most send =
     record {
-      setting = l .setting;
-      left = set (set (l .left) (m .stop) 0) (m .start) (loads l (m .start));
-      at = set (l .at) (m .who) (m .to);
-      li = l .li;
+      left = leftAfter (s .left) m most;
+      at = set (s .at) (m .who) (m .to);
+      acts = pushedAll (s .acts) (actsOf m send);
     }
 
-unfoldable pub performed : Link → Move → ℕ → Step
-performed l m send = record { link = moved l m; acts = acts (actsOf m send) }
+-- nothing done yet
+unfoldable pub begun : List ℕ → List ℕ → Step
+begun at left = record { left = left; at = at; acts = acts [] }
+
+-- an entry of another kind after what was done
+unfoldable pub added : Step → ℕ → Step
+added s x = record { left = s .left; at = s .at; acts = pushed (s .acts) x }
+
+-- everything IDLE, the link module at li
+unfoldable pub restAt : ℕ → List ℕ
+restAt li = 0 ∷ 0 ∷ 0 ∷ 0 ∷ li ∷ []
+
+-- everything stopped, and the stops said
+unfoldable pub stopped : ℕ → List ℕ → Step
+stopped li left = record { left = replicate timers 0; at = restAt li; acts = pushedAll (acts []) (stopsOf timers left) }

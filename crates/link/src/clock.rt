@@ -1,14 +1,16 @@
-// What time does to the nine timers, and what stopping them all says.
+// What time does to the timers, and what stopping them all says.
 use crate::actions::*;
-use crate::record::Link;
-use ground_tables::acts::Acts;
-use ground_tables::acts::none;
-use ground_tables::acts::push_when;
+use crate::acts::Acts;
+use crate::acts::none;
+use crate::acts::push_when;
+use crate::moves::TIMERS;
 ghost use mathlib.Core.Path.{_≡_};
-ghost use mathlib.Core.List.{map};
+ghost use mathlib.Core.List.{[]};
 ghost use Prim.Native.Nat.{_-_};
-ghost use Rattle.ground_tables.specs.Tests.{below};
-ghost use Rattle.link.specs.Clock.{due, notDue, later, stopped};
+ghost use Rattle.link.specs.Names.{timers};
+ghost use Rattle.link.specs.Tests.{below};
+ghost use Rattle.link.specs.Acts.{acts, pushedAll};
+ghost use Rattle.link.specs.Clock.{due, notDue, later, stopsOf};
 
 fn is_due(n: u32, left: u32) -> bool
     ensures { λ r. ⌜ r ≡ due n left ⌝ }
@@ -20,11 +22,11 @@ fn is_due(n: u32, left: u32) -> bool
 }
 
 // Whether every running timer outlasts n seconds.
-pub fn none_due(n: u32, left: [u32; 9]) -> bool
-    ensures { λ r. ⌜ r ≡ below 9 (notDue n left) ⌝ }
+pub fn none_due(n: u32, left: [u32; TIMERS]) -> bool
+    ensures { λ r. ⌜ r ≡ below timers (notDue n left) ⌝ }
 {
     let mut t: usize = 0;
-    while t < 9 {
+    while t < TIMERS {
         if is_due(n, left[t]) {
             return false;
         }
@@ -40,36 +42,25 @@ fn less(x: u32, n: u32) -> u32
 }
 
 // Each timer's seconds less n, down to 0.
-fn lowered(n: u32, left: [u32; 9]) -> [u32; 9]
-    ensures { λ r. ⌜ r ≡ map (λ x. x - n) left ⌝ }
+pub fn after(n: u32, left: [u32; TIMERS]) -> [u32; TIMERS]
+    ensures { λ r. ⌜ r ≡ later n left ⌝ }
 {
     let mut l = left;
     let mut t: usize = 0;
-    while t < 9 {
+    while t < TIMERS {
         l[t] = less(l[t], n);
         t += 1;
     }
     l
 }
 
-// The link n seconds later, where no timer is due.
-pub fn after(l: Link, n: u32) -> Link
-    ensures { λ r. ⌜ r ≡ later l n ⌝ }
-{
-    let left = l.left;
-    let lower = lowered(n, left);
-    let mut m = l;
-    m.left = lower;
-    m
-}
-
 // The stop entries of the running timers, in watch order.
-pub fn stops(left: [u32; 9]) -> Acts
-    ensures { λ r. ⌜ r ≡ stopped 9 left ⌝ }
+pub fn stops(left: [u32; TIMERS]) -> Acts
+    ensures { λ r. ⌜ r ≡ pushedAll (acts []) (stopsOf timers left) ⌝ }
 {
     let mut a = none();
     let mut t: usize = 0;
-    while t < 9 {
+    while t < TIMERS {
         a = push_when(a, 1 <= left[t], STOP + (t as u8));
         t += 1;
     }

@@ -1,5 +1,7 @@
-// One link: its record and the check of it, what time does to its timers, and the executor of moves.
+// The machinery of a link: moves, lists of actions, the executor, the watch rule, the clock. Knows no table, no record and no PDU.
 pub mod actions;
+pub mod acts;
 pub mod clock;
 pub mod executor;
-pub mod record;
+pub mod moves;
+pub mod watch;

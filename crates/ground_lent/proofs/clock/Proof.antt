@@ -40,11 +40,11 @@ use denote.Triple.Table.{entered, cited}
 use denote.Triple.Walked.{says, Stays, stay-ref, stay-none, walkOf, goes-none, goes-ref, Walks, ends-at, walked, walk-meets}
 use denote.Exit.{yes}
 use Rattle.ground_answer.specs.Clock.{elapsed}
-use Rattle.link.specs.declared.record.Link.{Link}
+use Rattle.ground_answer.specs.declared.record.Link.{Link}
 use Rattle.ground_answer.specs.declared.answer.Said.{Said}
 use Rattle.ground_answer.specs.declared.answer.Answer.{Answer}
-use Rattle.link.proofs.record.Link as T
-use Rattle.link.proofs.record.Link.Laws as T′
+use Rattle.ground_answer.proofs.record.Link as T
+use Rattle.ground_answer.proofs.record.Link.Laws as T′
 use Rattle.ground_answer.proofs.answer.Said as R
 use Rattle.ground_answer.proofs.answer.Said.Laws as R′
 use Rattle.ground_answer.proofs.answer.Answer as S

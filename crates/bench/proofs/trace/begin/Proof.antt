@@ -1,6 +1,5 @@
 use mathlib.Core.Path.{refl}
 use Prim.Native.Nat.{_-_}
-use Rattle.ground_answer.specs.Fresh.{fresh}
 use Rattle.bench.specs.Trace.{unset, firstText}
 use borrow.Author.Needs.{needs}
 use Rattle.bench.proofs.trace.begin.Statement.{statement}
@@ -12,12 +11,15 @@ slice-aggregate-put-text c = search needs
 put-text-requires : tie.Need-put-text-requires
 put-text-requires c κs = search needs
 
+idle-link-requires : tie.Need-idle-link-requires
+idle-link-requires c κs = search needs
+
 same-length : tie.Need-same-length
 same-length c = search needs
 
 returns : tie.Need-returns
-unfolding firstText unset fresh
-returns c = (refl, refl, refl, c .before .before .put-text .ensures)
+unfolding firstText unset
+returns c = (refl, refl, rw (c .idle-link .ensures), c .before .before .before .put-text .ensures)
 
 pub begin-spec : {M : Type 1} → statement M
-begin-spec = tie.close (tie.spec slice-aggregate-put-text put-text-requires same-length returns)
+begin-spec = tie.close (tie.spec slice-aggregate-put-text put-text-requires idle-link-requires same-length returns)

@@ -11,7 +11,7 @@ nothing-requires c κs = search needs
 
 returns : tie.Need-returns
 unfolding ackOf
-returns c = rw (c .if1 .taken, c .before .before .write .ensures)
+returns c = rw (c .before .before .if1 .taken, c .before .write .ensures)
 
 returns-2 : tie.Need-returns-2
 unfolding ackOf

@@ -1,10 +1,8 @@
-use borrow.Author.Tests.{not-true, not-false, eq-eqb, ne-eqb}
-use mathlib.Core.Path.{sym, ap, _∙_}
-use Rattle.ground.specs.Arrivals.{arrived, arrived}
-use Prim.Native.Nat.{ℕ}
+use Rattle.ground.specs.Arrivals.{arrived}
 use lib.Dec.{eqb}
-use borrow.Author.Tests.{not-true, not-false, ne-eqb}
-use mathlib.Core.Path.{sym, _∙_}
+use Prim.Native.Nat.{ℕ}
+use mathlib.Core.Path.{sym, ap, _∙_}
+use borrow.Author.Tests.{not-true, not-false, eq-eqb, ne-eqb}
 use borrow.Author.Needs.{needs}
 use Rattle.ground.proofs.arrivals.data.Statement.{statement}
 use Rattle.ground.proofs.arrivals.data.Tie as tie
@@ -19,6 +17,9 @@ returns : tie.Need-returns
 unfolding arrived
 returns c = rw (sym (c .before .before .is-good .ensures) ∙ not-true _ (c .before .if1 .taken)) (c .refuse .ensures)
 
+array-read-match : tie.Need-array-read-match
+array-read-match c = search needs
+
 take-requires : tie.Need-take-requires
 take-requires c κs = search needs
 
@@ -30,15 +31,15 @@ refuse-requires-2 c κs = search needs
 
 returns-2 : tie.Need-returns-2
 unfolding arrived
-returns-2 c = rw (sym (c .before .before .before .is-good .ensures) ∙ not-false _ (c .before .before .if1 .left), eq-eqb _ 2 (c .before .match .keys1)) (c .take .ensures)
+returns-2 c = rw (sym (c .before .before .before .before .is-good .ensures) ∙ not-false _ (c .before .before .before .if1 .left), eq-eqb _ 2 (c .before .match .keys1)) (c .take .ensures)
 
 returns-3 : tie.Need-returns-3
 unfolding arrived
-returns-3 c = rw (sym (c .before .before .before .is-good .ensures) ∙ not-false _ (c .before .before .if1 .left), ap (λ (k : ℕ). eqb k 2) (c .before .match .keys2), eq-eqb _ 3 (c .before .match .keys2)) (c .late .ensures)
+returns-3 c = rw (sym (c .before .before .before .before .is-good .ensures) ∙ not-false _ (c .before .before .before .if1 .left), ap (λ (k : ℕ). eqb k 2) (c .before .match .keys2), eq-eqb _ 3 (c .before .match .keys2)) (c .late .ensures)
 
 returns-4 : tie.Need-returns-4
 unfolding arrived
-returns-4 c = rw (sym (c .before .before .before .is-good .ensures) ∙ not-false _ (c .before .before .if1 .left), ne-eqb _ 2 (c .before .match .rest .0 .1), ne-eqb _ 3 (c .before .match .rest .1)) (c .refuse2 .ensures)
+returns-4 c = rw (sym (c .before .before .before .before .is-good .ensures) ∙ not-false _ (c .before .before .before .if1 .left), ne-eqb _ 2 (c .before .match .rest .0 .1), ne-eqb _ 3 (c .before .match .rest .1)) (c .refuse2 .ensures)
 
 pub data-spec : {M : Type 1} → statement M
 data-spec =
@@ -47,6 +48,7 @@ data-spec =
     is-good-requires
     refuse-requires
     returns
+    array-read-match
     take-requires
     late-requires
     refuse-requires-2

@@ -1,9 +1,13 @@
-use borrow.Author.Tests.{eq-eqb, ne-eqb}
-use Rattle.link.specs.Step.{performed}
 use Rattle.ground.specs.Requests.{asked}
+use Rattle.ground_answer.specs.Record.{went}
+use Rattle.ground.proofs.Moving.{decided}
+use borrow.Author.Tests.{eq-eqb, ne-eqb}
 use borrow.Author.Needs.{needs}
 use Rattle.ground.proofs.requests.ask.Statement.{statement}
 use Rattle.ground.proofs.requests.ask.Tie as tie
+
+turn-requires : tie.Need-turn-requires
+turn-requires c κs = search needs
 
 request-event-requires : tie.Need-request-event-requires
 request-event-requires c κs = search needs
@@ -15,8 +19,8 @@ refuse-requires : tie.Need-refuse-requires
 refuse-requires c κs = search needs
 
 returns : tie.Need-returns
-unfolding asked performed
-returns c = rw (← c .before .before .before .request-event .ensures, ← c .before .before .decide .ensures, ne-eqb _ 0 (c .before .if1 .taken)) (c .refuse .ensures)
+unfolding asked went
+returns c = rw (decided _ _ (c .before .before .before .before .before .turn .ensures) (c .before .before .before .request-event .ensures) (c .before .before .decide .ensures), ne-eqb _ 0 (c .before .if1 .taken)) (c .refuse .ensures)
 
 write-requires : tie.Need-write-requires
 write-requires c κs = search needs
@@ -25,11 +29,11 @@ refuse-requires-2 : tie.Need-refuse-requires-2
 refuse-requires-2 c κs = search needs
 
 returns-2 : tie.Need-returns-2
-unfolding asked performed
-returns-2 c = rw (← c .before .before .before .before .before .request-event .ensures, ← c .before .before .before .before .decide .ensures, eq-eqb _ 0 (c .before .before .before .if1 .left), ← c .before .before .write .ensures, ne-eqb _ 0 (c .before .if2 .taken)) (c .refuse2 .ensures)
+unfolding asked went
+returns-2 c = rw (decided _ _ (c .before .before .before .before .before .before .before .turn .ensures) (c .before .before .before .before .before .request-event .ensures) (c .before .before .before .before .decide .ensures), eq-eqb _ 0 (c .before .before .before .if1 .left), ← c .before .before .write .ensures, ne-eqb _ 0 (c .before .if2 .taken)) (c .refuse2 .ensures)
 
-with-li-requires : tie.Need-with-li-requires
-with-li-requires c κs = search needs
+most-of-requires : tie.Need-most-of-requires
+most-of-requires c κs = search needs
 
 perform-requires : tie.Need-perform-requires
 perform-requires c κs = search needs
@@ -38,13 +42,15 @@ tell-requires : tie.Need-tell-requires
 tell-requires c κs = search needs
 
 returns-3 : tie.Need-returns-3
-unfolding asked performed
-returns-3 c = rw (← c .before .before .before .before .before .before .before .before .before .before .request-event .ensures, ← c .before .before .before .before .before .before .before .before .before .decide .ensures, eq-eqb _ 0 (c .before .before .before .before .before .before .before .before .if1 .left), ← c .before .before .before .before .before .before .before .write .ensures, eq-eqb _ 0 (c .before .before .before .before .before .before .if2 .left), c .tell .ensures, c .before .before .before .before .perform .ensures, c .before .before .before .before .before .with-li .ensures)
+unfolding asked went
+returns-3 c =
+    rw (decided _ _ (c .before .before .before .before .before .before .before .before .before .before .turn .ensures) (c .before .before .before .before .before .before .before .before .request-event .ensures) (c .before .before .before .before .before .before .before .decide .ensures), eq-eqb _ 0 (c .before .before .before .before .before .before .if1 .left), ← c .before .before .before .before .before .write .ensures, eq-eqb _ 0 (c .before .before .before .before .if2 .left), c .tell .ensures, c .before .perform .ensures, c .before .before .most-of .ensures, c .before .before .before .before .before .before .before .before .before .before .turn .ensures)
 
 pub ask-spec : {M : Type 1} → statement M
 ask-spec =
     tie.close
     (tie.spec
+    turn-requires
     request-event-requires
     decide-requires
     refuse-requires
@@ -52,7 +58,7 @@ ask-spec =
     write-requires
     refuse-requires-2
     returns-2
-    with-li-requires
+    most-of-requires
     perform-requires
     tell-requires
     returns-3)

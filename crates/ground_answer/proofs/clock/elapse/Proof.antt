@@ -1,7 +1,6 @@
 use borrow.Author.Tests.{not-true, not-false, le-leb, lt-leb}
-use mathlib.Core.Path.{sym, ap, _∙_}
-use Rattle.ground_answer.specs.Answers.{quietly}
-use Rattle.ground_answer.specs.Clock.{elapsed}
+use mathlib.Core.Path.{sym, _∙_}
+use Rattle.ground_answer.specs.Clock.{elapsed, waited}
 use borrow.Author.Needs.{needs}
 use Rattle.ground_answer.proofs.clock.elapse.Statement.{statement}
 use Rattle.ground_answer.proofs.clock.elapse.Tie as tie
@@ -29,6 +28,9 @@ none-due-requires c κs = search needs
 after-requires : tie.Need-after-requires
 after-requires c κs = search needs
 
+begin-requires : tie.Need-begin-requires
+begin-requires c κs = search needs
+
 change-requires : tie.Need-change-requires
 change-requires c κs = search needs
 
@@ -36,12 +38,14 @@ abort-requires : tie.Need-abort-requires
 abort-requires c κs = search needs
 
 returns-3 : tie.Need-returns-3
-unfolding elapsed
-returns-3 c = rw (sym (c .before .before .before .before .before .before .before .is-good .ensures) ∙ not-false _ (c .before .before .before .before .before .before .if1 .left), le-leb _ 86400 (c .before .before .before .before .before .if2 .left), sym (c .before .before .before .none-due .ensures) ∙ c .before .before .if3 .taken) (c .change .ensures ∙ ap quietly (c .before .after .ensures))
+unfolding elapsed waited
+returns-3 c =
+    rw (sym (c .before .before .before .before .before .before .before .before .before .is-good .ensures) ∙ not-false _ (c .before .before .before .before .before .before .before .before .if1 .left), le-leb _ 86400 (c .before .before .before .before .before .before .before .if2 .left), sym (c .before .before .before .before .none-due .ensures) ∙ c .before .before .before .if3 .taken)
+    (c .change .ensures ∙ rw (c .before .begin .ensures, c .before .before .after .ensures))
 
 returns-4 : tie.Need-returns-4
-unfolding elapsed
-returns-4 c = rw (sym (c .before .before .before .before .before .before .is-good .ensures) ∙ not-false _ (c .before .before .before .before .before .if1 .left), le-leb _ 86400 (c .before .before .before .before .if2 .left), sym (c .before .before .none-due .ensures) ∙ c .before .if3 .left) (c .abort .ensures)
+unfolding elapsed waited
+returns-4 c = rw (sym (c .before .before .before .before .before .before .before .is-good .ensures) ∙ not-false _ (c .before .before .before .before .before .before .if1 .left), le-leb _ 86400 (c .before .before .before .before .before .if2 .left), sym (c .before .before .none-due .ensures) ∙ c .before .if3 .left) (c .abort .ensures)
 
 pub elapse-spec : {M : Type 1} → statement M
 elapse-spec =
@@ -54,6 +58,7 @@ elapse-spec =
     returns-2
     none-due-requires
     after-requires
+    begin-requires
     change-requires
     abort-requires
     returns-3

@@ -1,11 +1,15 @@
-use Rattle.ground_answer.specs.Fresh.{fresh}
+use Rattle.link.specs.Step.{restAt}
+use Rattle.ground_answer.specs.Record.{fresh}
 use borrow.Author.Needs.{needs}
 use Rattle.ground_answer.proofs.fresh.idle_link.Statement.{statement}
 use Rattle.ground_answer.proofs.fresh.idle_link.Tie as tie
 
+make-requires : tie.Need-make-requires
+make-requires c κs = search needs
+
 returns : tie.Need-returns
-unfolding fresh
-returns c = search needs
+unfolding fresh restAt
+returns c = c .make .ensures
 
 pub idle-link-spec : {M : Type 1} → statement M
-idle-link-spec = tie.close (tie.spec returns)
+idle-link-spec = tie.close (tie.spec make-requires returns)

@@ -1,7 +1,7 @@
 use mathlib.Core.Logic.{inl, inr}
 use borrow.Author.Needs.{needs}
 use borrow.Author.Tests.{ne-eqb}
-use Rattle.ground_tables.proofs.Laws.{cases}
+use Rattle.link.proofs.Laws.{cases}
 use Rattle.ground_tables.specs.Moves.{dcMove, dcRows}
 use Rattle.ground_tables.proofs.decide.dc_move.Statement.{statement}
 use Rattle.ground_tables.proofs.decide.dc_move.Tie as tie

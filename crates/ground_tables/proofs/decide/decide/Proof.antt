@@ -1,6 +1,9 @@
+use native.Mathlib.Nat.{sub-zero}
 use borrow.Author.Tests.{le-leb, lt-leb}
 use native.Mathlib.Omega.{arith}
-use Rattle.ground_tables.specs.Moves.{moveOf}
+use Rattle.sides.specs.Tables.{moveOf}
+use Rattle.ground_tables.specs.Moves.{groundRows, dcMove, contractMove, emMove}
+use Rattle.ground_tables.specs.Tables.{groundTables}
 use borrow.Author.Needs.{needs}
 use Rattle.ground_tables.proofs.decide.decide.Statement.{statement}
 use Rattle.ground_tables.proofs.decide.decide.Tie as tie
@@ -45,23 +48,23 @@ unlisted-requires : tie.Need-unlisted-requires
 unlisted-requires c κs = search needs
 
 returns : tie.Need-returns
-unfolding moveOf
-returns c = rw (le-leb (c .before .before .args .event) 15 (omega arith)) (c .dc-move .ensures)
+unfolding moveOf groundTables groundRows dcMove contractMove emMove
+returns c = rw (le-leb (c .before .before .args .event) 15 (omega arith), sub-zero) (c .dc-move .ensures)
 
 returns-2 : tie.Need-returns-2
-unfolding moveOf
+unfolding moveOf groundTables groundRows dcMove contractMove emMove
 returns-2 c = rw (lt-leb (c .before .before .before .args .event) 15 (omega arith), le-leb (c .before .before .before .args .event) 31 (omega arith)) (c .contract-move .ensures)
 
 returns-3 : tie.Need-returns-3
-unfolding moveOf
+unfolding moveOf groundTables groundRows dcMove contractMove emMove
 returns-3 c = rw (lt-leb (c .before .before .before .before .before .args .event) 15 (omega arith), lt-leb (c .before .before .before .before .before .args .event) 31 (omega arith), le-leb (c .before .before .before .before .before .args .event) 47 (omega arith), ← c .before .pc2-if .ensures) (c .contract-move2 .ensures)
 
 returns-4 : tie.Need-returns-4
-unfolding moveOf
+unfolding moveOf groundTables groundRows dcMove contractMove emMove
 returns-4 c = rw (lt-leb (c .before .before .before .before .before .before .args .event) 15 (omega arith), lt-leb (c .before .before .before .before .before .before .args .event) 31 (omega arith), lt-leb (c .before .before .before .before .before .before .args .event) 47 (omega arith), le-leb (c .before .before .before .before .before .before .args .event) 63 (omega arith), ← c .before .pc2-if2 .ensures) (c .em-move .ensures)
 
 returns-5 : tie.Need-returns-5
-unfolding moveOf
+unfolding moveOf groundTables groundRows dcMove contractMove emMove
 returns-5 c = rw (lt-leb (c .before .before .before .before .before .args .event) 15 (omega arith), lt-leb (c .before .before .before .before .before .args .event) 31 (omega arith), lt-leb (c .before .before .before .before .before .args .event) 47 (omega arith), lt-leb (c .before .before .before .before .before .args .event) 63 (omega arith)) (c .unlisted .ensures)
 
 pub decide-spec : {M : Type 1} → statement M

@@ -28,6 +28,9 @@ array-read-out-4 c = search needs
 slice-write-out-4 : tie.Need-slice-write-out-4
 slice-write-out-4 c = search needs
 
+array-read-out-5 : tie.Need-array-read-out-5
+array-read-out-5 c = search needs
+
 slice-write-out-5 : tie.Need-slice-write-out-5
 slice-write-out-5 c = simp length-set (omega arith)
 
@@ -49,6 +52,7 @@ put-states-spec =
     slice-write-out-3
     array-read-out-4
     slice-write-out-4
+    array-read-out-5
     slice-write-out-5
     same-length
     returns)

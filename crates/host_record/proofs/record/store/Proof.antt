@@ -1,5 +1,6 @@
 use mathlib.Core.Path.{_≡_, _∙_}
 use lib.ListN.{length}
+use Rattle.link.specs.Names.{timers}
 use Rattle.host_record.specs.RecordLayout.{recordOctets}
 use Rattle.host_record.proofs.Puts.{record-whole}
 use borrow.Author.Needs.{needs}
@@ -18,10 +19,10 @@ put-states-requires c κs = search needs
 same-length : tie.Need-same-length
 same-length c = search needs
 
-long : (c : tie.Start) → length (c .args .l .setting) ≡ 9
+long : (c : tie.Start) → length (c .args .l .setting) ≡ timers
 long c = search needs
 
-wide : (c : tie.Start) → length (c .args .l .left) ≡ 9
+wide : (c : tie.Start) → length (c .args .l .left) ≡ timers
 wide c = search needs
 
 returns : tie.Need-returns
@@ -32,7 +33,7 @@ returns c =
     let r = q .before .before .before .before in
     let b = r .before .before .before .before .before .before in
     let l = b .args .l in
-    p .put-states .ensures ∙ rw (q .put-words2 .ensures, r .put-words .ensures) (record-whole (b .args .out .now) (l .setting) (l .left) (l .at) (l .li) (b .pre) (long b) (wide b))
+    p .put-states .ensures ∙ rw (q .put-words2 .ensures, r .put-words .ensures) (record-whole (b .args .out .now) (l .setting) (l .left) (l .at) (b .pre) (long b) (wide b))
 
 pub store-spec : {M : Type 1} → statement M
 store-spec =

@@ -3,6 +3,7 @@ use mathlib.Core.Path.{_≡_, refl, _∙_}
 use native.Mathlib.Omega.{arith}
 use lib.ListN.{replicate}
 use lib.Seq.{sets}
+use Rattle.link.specs.Names.{timers}
 use Rattle.host_record.specs.RecordLayout.{words}
 use Rattle.host_record.proofs.Puts.{words-step}
 use borrow.Author.Needs.{needs}
@@ -10,10 +11,10 @@ use Rattle.host_record.proofs.record.words_at.Statement.{statement}
 use Rattle.host_record.proofs.record.words_at.Tie as tie
 
 abbrev Inv-loop : tie.InvT-loop
-Inv-loop s at ws₀ i₀ ws i = (i ≤ 9) × (ws ≡ sets (replicate 9 0) 0 (words s at i))
+Inv-loop s at ws₀ i₀ ws i = (i ≤ timers) × (ws ≡ sets (replicate timers 0) 0 (words s at i))
 
 abbrev μ-loop : tie.MeasureT-loop
-μ-loop s at ws₀ i₀ ws i = 9 - i
+μ-loop s at ws₀ i₀ ws i = timers - i
 
 loop-holds : tie.Need-loop-holds Inv-loop μ-loop
 loop-holds c = (omega arith, refl)
@@ -43,12 +44,12 @@ loop-again : tie.Need-loop-again Inv-loop μ-loop
 loop-again c =
     let k = c .before .before in
     let a = k .before .before .args in
-    (omega arith, rw (k .loop .inv .1, c .word .ensures) (words-step (replicate 9 0) (a .s .now) (a .at) (k .loop .i)))
+    (omega arith, rw (k .loop .inv .1, c .word .ensures) (words-step (replicate timers 0) (a .s .now) (a .at) (k .loop .i)))
 
 returns : tie.Need-returns Inv-loop μ-loop
 returns c =
     let k = c .before in
-    let e : k .loop .i ≡ 9 = omega arith in
+    let e : k .loop .i ≡ timers = omega arith in
     k .loop .inv .1 ∙ rw e
 
 pub words-at-spec : {M : Type 1} → statement M

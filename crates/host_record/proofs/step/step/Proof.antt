@@ -1,5 +1,5 @@
 use mathlib.Core.Path.{ap, _∙_}
-use Rattle.link.specs.declared.record.Link.{Link}
+use Rattle.ground_answer.specs.declared.record.Link.{Link}
 use Rattle.host_record.proofs.Puts.{saved-record}
 use Rattle.ground.specs.Runs.{answered}
 use Rattle.host_record.proofs.Ways.{no-record, refused-so, no-room, accepted}

@@ -1,5 +1,5 @@
 use borrow.Author.Tests.{le-leb, lt-leb}
-use Rattle.ground_tables.proofs.Laws.{both-1}
+use Rattle.link.proofs.Laws.{both-1}
 use Rattle.link.specs.Clock.{due}
 use Rattle.link.proofs.clock.is_due.Statement.{statement}
 use Rattle.link.proofs.clock.is_due.Tie as tie

@@ -3,17 +3,18 @@ use mathlib.Core.Bool.{true, not}
 use Prim.Native.Nat.{_-_, _≤_}
 use native.Mathlib.Omega.{arith}
 use Rattle.link.proofs.Laws.{below-more, below-fails, at-end}
-use Rattle.ground_tables.specs.Tests.{below}
+use Rattle.link.specs.Tests.{below}
 use Rattle.link.specs.Clock.{notDue}
 use borrow.Author.Needs.{needs}
 use Rattle.link.proofs.clock.none_due.Statement.{statement}
+use Rattle.link.specs.Names.{timers}
 use Rattle.link.proofs.clock.none_due.Tie as tie
 
 abbrev Inv-loop : tie.InvT-loop
-Inv-loop n left t₀ t = (t ≤ 9) × (below t (notDue n left) ≡ true)
+Inv-loop n left t₀ t = (t ≤ timers) × (below t (notDue n left) ≡ true)
 
 abbrev μ-loop : tie.MeasureT-loop
-μ-loop n left t₀ t = 9 - t
+μ-loop n left t₀ t = timers - t
 
 loop-holds : tie.Need-loop-holds Inv-loop μ-loop
 loop-holds c = (search needs, refl)
@@ -31,7 +32,7 @@ returns : tie.Need-returns Inv-loop μ-loop
 unfolding notDue
 returns c =
     sym
-    (below-fails (notDue (c .before .before .before .before .args .n) (c .before .before .before .before .args .t2)) 9 (c .before .before .before .loop .t) (c .before .before .loop-test .taken)
+    (below-fails (notDue (c .before .before .before .before .args .n) (c .before .before .before .before .args .t2)) timers (c .before .before .before .loop .t) (c .before .before .loop-test .taken)
     (ap not (sym (c .before .is-due .ensures) ∙ c .if1 .taken)))
 
 add-t : tie.Need-add-t Inv-loop μ-loop
@@ -45,7 +46,7 @@ unfolding notDue
 loop-again c = (omega arith, below-more (notDue (c .before .before .before .before .args .n) (c .before .before .before .before .args .t2)) (c .before .before .before .loop .t) (c .before .before .before .loop .inv .1) (ap not (sym (c .before .is-due .ensures) ∙ c .if1 .left)))
 
 returns-2 : tie.Need-returns-2 Inv-loop μ-loop
-returns-2 c = at-end (notDue (c .before .before .args .n) (c .before .before .args .t2)) (c .before .loop .t) 9 (omega arith) (c .before .loop .inv .1)
+returns-2 c = at-end (notDue (c .before .before .args .n) (c .before .before .args .t2)) (c .before .loop .t) timers (omega arith) (c .before .loop .inv .1)
 
 pub none-due-spec : {M : Type 1} → statement M
 none-due-spec =

@@ -1,14 +1,13 @@
-use lib.Dec.{ltb, lit<, lit≤}
-use mathlib.Core.List.{[]}
+use mathlib.Core.List.{_++_}
 use Prim.Native.Nat.{_+_}
-use Rattle.link.proofs.Pushes.{Holds, next}
-use Rattle.link.specs.Step.{performed, actsOf}
+use lib.Dec.{ltb}
+use Rattle.link.specs.Acts.{one}
+use Rattle.link.specs.Step.{performed, leftAfter, actsOf}
+use Rattle.link.proofs.Laws.{push-first, push-next}
 use borrow.Author.Needs.{needs}
 use Rattle.link.proofs.executor.perform.Statement.{statement}
+use Rattle.link.specs.Names.{timers}
 use Rattle.link.proofs.executor.perform.Tie as tie
-
-none-requires : tie.Need-none-requires
-none-requires c κs = search needs
 
 push-timer-requires : tie.Need-push-timer-requires
 push-timer-requires c κs = search needs
@@ -22,29 +21,45 @@ push-when-requires-2 c κs = search needs
 push-timer-requires-2 : tie.Need-push-timer-requires-2
 push-timer-requires-2 c κs = search needs
 
-shift-requires : tie.Need-shift-requires
-shift-requires c κs = search needs
+get-timer-requires : tie.Need-get-timer-requires
+get-timer-requires c κs = search needs
+
+put-timer-requires : tie.Need-put-timer-requires
+put-timer-requires c κs = search needs
+
+put-timer-requires-2 : tie.Need-put-timer-requires-2
+put-timer-requires-2 c κs = search needs
+
+put-state-requires : tie.Need-put-state-requires
+put-state-requires c κs = search needs
 
 returns : tie.Need-returns
-unfolding performed actsOf
+unfolding performed leftAfter actsOf
 returns c =
-    let m = c .before .before .before .before .before .before .args .m in
-    let h₀ : Holds (c .before .before .before .before .before .none .result) [] 0 =
-    record { is = c .before .before .before .before .before .none .ensures; short = lit≤ tt } in
-    let h₁ = next (ltb (m .stop) 9) (16 + m .stop) h₀ (lit< tt) (c .before .before .before .before .push-timer .ensures) in
-    let h₂ = next (m .ind) 5 h₁ (lit< tt) (c .before .before .before .push-when .ensures) in
-    let h₃ = next (m .send) (c .before .before .before .before .before .before .args .send) h₂ (lit< tt) (c .before .before .push-when2 .ensures) in
-    let h₄ = next (ltb (m .start) 9) (32 + m .start) h₃ (lit< tt) (c .before .push-timer2 .ensures) in
-    λ i. record { link = c .shift .ensures i; acts = h₄ .is i }
+    let p₄ = c .before .before .before .before in
+    let p₃ = p₄ .before in
+    let p₂ = p₃ .before in
+    let p₁ = p₂ .before in
+    let start = p₁ .before .before .before .before in
+    let m = start .args .m in
+    let s = start .args .s .acts in
+    let h₁ = push-first s (ltb (m .stop) timers) (16 + m .stop) (p₁ .push-timer .ensures) in
+    let h₂ = push-next s (one (ltb (m .stop) timers) (16 + m .stop)) (m .ind) 5 h₁ (p₂ .push-when .ensures) in
+    let h₃ = push-next s (one (ltb (m .stop) timers) (16 + m .stop) ++ one (m .ind) 5) (m .send) (start .args .send) h₂ (p₃ .push-when2 .ensures) in
+    let h₄ =
+    push-next s (one (ltb (m .stop) timers) (16 + m .stop) ++ one (m .ind) 5 ++ one (m .send) (start .args .send)) (ltb (m .start) timers) (32 + m .start) h₃ (p₄ .push-timer2 .ensures) in
+    rw (c .put-state .ensures, c .before .put-timer2 .ensures, c .before .before .put-timer .ensures, c .before .before .before .get-timer .ensures, h₄)
 
 pub perform-spec : {M : Type 1} → statement M
 perform-spec =
     tie.close
     (tie.spec
-    none-requires
     push-timer-requires
     push-when-requires
     push-when-requires-2
     push-timer-requires-2
-    shift-requires
+    get-timer-requires
+    put-timer-requires
+    put-timer-requires-2
+    put-state-requires
     returns)

@@ -1,0 +1,60 @@
+// What an event does: at most one timer stopped, an indication, a send and one timer started, in this order, and the next state of a module.
+ghost use mathlib.Core.Path.{_≡_};
+ghost use Rattle.link.specs.Moves.{go, unlisted};
+
+// How many timers there are, in watch order.
+pub const TIMERS: usize = 9;
+
+// The number that stands for none of the timers.
+pub const NO_TIMER: u8 = TIMERS as u8;
+
+// modules, in the order in which their states stand
+pub const DC: u8 = 0;
+
+pub const EC: u8 = 1;
+
+pub const PC: u8 = 2;
+
+pub const EM: u8 = 3;
+
+pub const LI: u8 = 4;
+
+// `fate` is 0 for a move that goes, 1 for a request that is refused with 1, 3 for data that is abort 3.
+pub struct Move {
+    pub fate: u8,
+    pub stop: u8,
+    pub ind: bool,
+    pub send: bool,
+    pub start: u8,
+    pub who: u8,
+    pub to: u8,
+}
+
+pub fn go(who: u8, to: u8, stop: u8, ind: bool, send: bool, start: u8) -> Move
+    ensures { λ r. ⌜ r ≡ go who to stop ind send start ⌝ }
+{
+    Move {
+        fate: 0,
+        stop,
+        ind,
+        send,
+        start,
+        who,
+        to,
+    }
+}
+
+pub fn unlisted(kind: u8) -> Move
+    ensures { λ r. ⌜ r ≡ unlisted kind ⌝ }
+{
+    let fate: u8 = if kind <= 3 { 1 } else { 3 };
+    Move {
+        fate,
+        stop: NO_TIMER,
+        ind: false,
+        send: false,
+        start: NO_TIMER,
+        who: 0,
+        to: 0,
+    }
+}
