@@ -22,6 +22,8 @@ use Rattle.ground_answer.specs.declared.sent.Sent.{Sent}
 use Rattle.ground_answer.specs.Answers.{DATA-REQUEST, END-REQUEST, LATE, refusal, tells, quietly, checked, allowed}
 use Rattle.ground_answer.specs.Aborts.{aborted}
 use Rattle.ground_answer.specs.declared.answer.Answer.{Answer}
+use Rattle.refusals.specs.Refusals.{CANNOT-OCCUR}
+use Rattle.ground_answer.specs.Reasons.{INVALID-PDU, SEQUENCE-ERROR}
 
 -- "cancel-emergency, stop the timer, ind, send ack": the one send that data makes. It goes before an end request
 unfoldable pub ackOf : Move → Sent
@@ -34,16 +36,16 @@ ended l s octets = pick (idle (s .at)) (tells l (performed s liEnd (loads l) END
 -- "Downlink data not listed for a state: abort 3."
 unfoldable pub passed : Link → ℕ → Answer
 passed l e =
-    pick (eqb (moveAt l LI-ACTIVE e .fate) 0) (ended l (went l LI-ACTIVE e DATA-REQUEST) (ackOf (moveAt l LI-ACTIVE e))) (aborted l 3)
+    pick (eqb (moveAt l LI-ACTIVE e .fate) 0) (ended l (went l LI-ACTIVE e DATA-REQUEST) (ackOf (moveAt l LI-ACTIVE e))) (aborted l SEQUENCE-ERROR)
 
 -- "A value is taken only when the reading is good; otherwise a start confirm in START or data in ACTIVE ends in abort 2."
 unfoldable pub taken : Link → per.Answer AirPdu → Answer
 taken l (got a) = passed l (airEvent (a .kind))
-taken l (refused n) = aborted l 2
+taken l (refused n) = aborted l INVALID-PDU
 
 -- "START: accepted start confirm passes its data, then ACTIVE"; "Link primitives not listed: refusal 2."
 unfoldable pub confirmed : Link → List ℕ → Answer
-confirmed l s = allowed l (liIs (l .at) LI-START) 2 (taken l (readPdu airC s))
+confirmed l s = allowed l (liIs (l .at) LI-START) CANNOT-OCCUR (taken l (readPdu airC s))
 
 -- "END: data is set aside unread as "late""
 unfoldable pub lateData : Link → Answer
@@ -51,4 +53,4 @@ lateData l = quietly l (added (begun (l .at) (l .left)) LATE)
 
 -- "ACTIVE: data passes."
 unfoldable pub arrived : Link → List ℕ → Answer
-arrived l s = checked l (pick (liIs (l .at) LI-ACTIVE) (taken l (readPdu airC s)) (pick (liIs (l .at) LI-END) (lateData l) (refusal l 2)))
+arrived l s = checked l (pick (liIs (l .at) LI-ACTIVE) (taken l (readPdu airC s)) (pick (liIs (l .at) LI-END) (lateData l) (refusal l CANNOT-OCCUR)))

@@ -16,6 +16,7 @@ use Rattle.ground_answer.specs.Sent.{outgoing}
 use Rattle.ground_answer.specs.Answers.{START-REQUEST, DATA-REQUEST, END-REQUEST, ABORT-REQUEST, refusal, tells, checked, allowed}
 use Rattle.ground_answer.specs.Aborts.{closedWhen}
 use Rattle.ground_answer.specs.declared.answer.Answer.{Answer}
+use Rattle.refusals.specs.Refusals.{NOT-PERMITTED}
 
 -- a module's request, with LI at li from then on: 1 where no row has it, then what its fields are refused with, else the move
 unfoldable pub asked : Link → Ground → ℕ → ℕ → Answer
@@ -24,14 +25,14 @@ asked l g li entry =
     (pick (eqb (outgoing g .refusal) 0)
     (tells l (went l li (requestEvent g) entry) 0 (outgoing g .sent))
     (refusal l (outgoing g .refusal)))
-    (refusal l 1)
+    (refusal l NOT-PERMITTED)
 
 -- "Cancel-all in ACTIVE: stop running timers in watch order, all modules IDLE, end request with the PDU, END."
 unfoldable pub cancelled : Link → Answer
 cancelled l = tells l (performed (stopped LI-ACTIVE (l .left)) liEnd (loads l) END-REQUEST) 0 (outgoing CancelAll .sent)
 
 unfoldable pub allCancelled : Link → Answer
-allCancelled l = allowed l (liIs (l .at) LI-ACTIVE) 1 (cancelled l)
+allCancelled l = allowed l (liIs (l .at) LI-ACTIVE) NOT-PERMITTED (cancelled l)
 
 -- "IDLE: a contract request goes as a start request, START. Other sends are data requests. Requests in START or END: refusal 1."
 unfoldable pub requested : Link → Ground → Answer
@@ -39,8 +40,8 @@ requested l g =
     pick (eqb (requestEvent g) cancel-all) (allCancelled l)
     (checked l
     (pick (liIs (l .at) LI-IDLE) (asked l g LI-START START-REQUEST)
-    (pick (liIs (l .at) LI-ACTIVE) (asked l g LI-ACTIVE DATA-REQUEST) (refusal l 1))))
+    (pick (liIs (l .at) LI-ACTIVE) (asked l g LI-ACTIVE DATA-REQUEST) (refusal l NOT-PERMITTED))))
 
 -- "A user abort (START, ACTIVE, END; in IDLE refusal 1): stops, abort request with no PDU, no indication."
 unfoldable pub userAborted : Link → Answer
-userAborted l = closedWhen l (not (liIs (l .at) LI-IDLE)) 1 ABORT-REQUEST 0
+userAborted l = closedWhen l (not (liIs (l .at) LI-IDLE)) NOT-PERMITTED ABORT-REQUEST 0

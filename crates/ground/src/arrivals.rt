@@ -2,6 +2,8 @@
 use ground_answer::abort::abort;
 use ground_answer::answer::*;
 use ground_answer::events::air_event;
+use ground_answer::reasons::INVALID_PDU;
+use ground_answer::reasons::SEQUENCE_ERROR;
 use ground_answer::record::Link;
 use ground_answer::record::all_idle;
 use ground_answer::record::is_good;
@@ -21,6 +23,8 @@ use link::moves::Move;
 use pdu::AirAnswer;
 use pdu::decode_air;
 use pdu::uplink::Ground;
+use refusals::BAD_RECORD;
+use refusals::CANNOT_OCCUR;
 ghost use mathlib.Core.Path.{_≡_};
 ghost use Rattle.per.specs.Pdu.{readPdu};
 ghost use Rattle.pdu.specs.DownlinkTable.{airC};
@@ -58,7 +62,7 @@ fn pass(l: Link, event: u8) -> Answer
     let m = decide(at, event);
     let fate = m.fate;
     if fate != 0 {
-        return abort(l, 3);
+        return abort(l, SEQUENCE_ERROR);
     }
     end(l, perform(first, m, most_of(l), DATA_REQUEST), ack_of(m))
 }
@@ -70,7 +74,7 @@ fn take(l: Link, octets: &[u8]) -> Answer
     let reading = decode_air(octets);
     let answer = reading.answer;
     let AirAnswer::Good(kind) = answer else {
-        return abort(l, 2);
+        return abort(l, INVALID_PDU);
     };
     pass(l, air_event(kind))
 }
@@ -80,11 +84,11 @@ pub fn start_confirm(l: Link, octets: &[u8]) -> Answer
     ensures { λ r. ⌜ r ≡ confirmed l (now (octets .entry)) ⌝ }
 {
     if !is_good(l) {
-        return refuse(l, 29);
+        return refuse(l, BAD_RECORD);
     }
     let at = l.at;
     if at[4] != LI_START {
-        return refuse(l, 2);
+        return refuse(l, CANNOT_OCCUR);
     }
     take(l, octets)
 }
@@ -102,12 +106,12 @@ pub fn data(l: Link, octets: &[u8]) -> Answer
     ensures { λ r. ⌜ r ≡ arrived l (now (octets .entry)) ⌝ }
 {
     if !is_good(l) {
-        return refuse(l, 29);
+        return refuse(l, BAD_RECORD);
     }
     let at = l.at;
     match at[4] {
         LI_ACTIVE => take(l, octets),
         LI_END => late(l),
-        _ => refuse(l, 2),
+        _ => refuse(l, CANNOT_OCCUR),
     }
 }

@@ -2,6 +2,9 @@
 use ground_answer::abort::close_when;
 use ground_answer::answer::*;
 use ground_answer::events::reason_in;
+use ground_answer::reasons::NO_CONTACT;
+use ground_answer::reasons::PROVIDER_FAILURE;
+use ground_answer::reasons::UNDEFINED_ERROR;
 use ground_answer::record::Link;
 use ground_answer::record::is_good;
 use ground_answer::record::most_of;
@@ -11,6 +14,8 @@ use link::executor::begin;
 use link::executor::perform;
 use pdu::AirAnswer;
 use pdu::decode_air;
+use refusals::BAD_RECORD;
+use refusals::CANNOT_OCCUR;
 ghost use mathlib.Core.Path.{_≡_};
 ghost use Rattle.per.specs.Pdu.{readPdu};
 ghost use Rattle.pdu.specs.DownlinkTable.{airC};
@@ -21,14 +26,14 @@ pub fn start_rejected(l: Link) -> Answer
     ensures { λ r. ⌜ r ≡ rejected l ⌝ }
 {
     let at = l.at;
-    close_when(l, at[4] == LI_START, 2, ABORT_IND, 5)
+    close_when(l, at[4] == LI_START, CANNOT_OCCUR, ABORT_IND, NO_CONTACT)
 }
 
 pub fn peer_abort(l: Link) -> Answer
     ensures { λ r. ⌜ r ≡ peerAborted l ⌝ }
 {
     let at = l.at;
-    close_when(l, at[4] != LI_IDLE, 2, PEER_ABORT_IND, 0)
+    close_when(l, at[4] != LI_IDLE, CANNOT_OCCUR, PEER_ABORT_IND, 0)
 }
 
 // The reason in an abort's octets; 6 where they are no provider abort that reads well.
@@ -38,7 +43,7 @@ fn reason_of(octets: &[u8]) -> u32
     let reading = decode_air(octets);
     let answer = reading.answer;
     let AirAnswer::Good(kind) = answer else {
-        return 6;
+        return UNDEFINED_ERROR;
     };
     reason_in(kind)
 }
@@ -49,7 +54,7 @@ pub fn air_abort(l: Link, octets: &[u8]) -> Answer
 {
     let at = l.at;
     let reason = reason_of(octets);
-    close_when(l, at[4] != LI_IDLE, 2, ABORT_IND, reason)
+    close_when(l, at[4] != LI_IDLE, CANNOT_OCCUR, ABORT_IND, reason)
 }
 
 // The provider below fails.
@@ -57,18 +62,24 @@ pub fn down(l: Link) -> Answer
     ensures { λ r. ⌜ r ≡ failed l ⌝ }
 {
     let at = l.at;
-    close_when(l, at[4] != LI_IDLE, 2, ABORT_IND, 0)
+    close_when(
+        l,
+        at[4] != LI_IDLE,
+        CANNOT_OCCUR,
+        ABORT_IND,
+        PROVIDER_FAILURE,
+    )
 }
 
 pub fn end_confirm(l: Link) -> Answer
     ensures { λ r. ⌜ r ≡ endConfirmed l ⌝ }
 {
     if !is_good(l) {
-        return refuse(l, 29);
+        return refuse(l, BAD_RECORD);
     }
     let at = l.at;
     if at[4] != LI_END {
-        return refuse(l, 2);
+        return refuse(l, CANNOT_OCCUR);
     }
     let left = l.left;
     change(l, perform(begin(at, left), li_over(), most_of(l), 0))

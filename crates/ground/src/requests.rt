@@ -14,6 +14,8 @@ use ground_tables::names::*;
 use link::executor::perform;
 use link::executor::stop_all;
 use pdu::uplink::Ground;
+use refusals::BAD_RECORD;
+use refusals::NOT_PERMITTED;
 ghost use mathlib.Core.Path.{_≡_};
 ghost use Rattle.ground.specs.Requests.{asked, allCancelled, requested, userAborted};
 
@@ -26,7 +28,7 @@ fn ask(l: Link, g: Ground, li: u8, entry: u8) -> Answer
     let m = decide(at, request_event(g));
     let fate = m.fate;
     if fate != 0 {
-        return refuse(l, 1);
+        return refuse(l, NOT_PERMITTED);
     }
     let w = write(g);
     let refusal = w.refusal;
@@ -41,11 +43,11 @@ fn cancel_all(l: Link) -> Answer
     ensures { λ r. ⌜ r ≡ allCancelled l ⌝ }
 {
     if !is_good(l) {
-        return refuse(l, 29);
+        return refuse(l, BAD_RECORD);
     }
     let at = l.at;
     if at[4] != LI_ACTIVE {
-        return refuse(l, 1);
+        return refuse(l, NOT_PERMITTED);
     }
     let left = l.left;
     let w = write(Ground::CancelAll);
@@ -62,13 +64,13 @@ pub fn request(l: Link, g: Ground) -> Answer
         return cancel_all(l);
     }
     if !is_good(l) {
-        return refuse(l, 29);
+        return refuse(l, BAD_RECORD);
     }
     let at = l.at;
     match at[4] {
         LI_IDLE => ask(l, g, LI_START, START_REQUEST),
         LI_ACTIVE => ask(l, g, LI_ACTIVE, DATA_REQUEST),
-        _ => refuse(l, 1),
+        _ => refuse(l, NOT_PERMITTED),
     }
 }
 
@@ -77,5 +79,5 @@ pub fn user_abort(l: Link) -> Answer
     ensures { λ r. ⌜ r ≡ userAborted l ⌝ }
 {
     let at = l.at;
-    close_when(l, at[4] != LI_IDLE, 1, ABORT_REQUEST, 0)
+    close_when(l, at[4] != LI_IDLE, NOT_PERMITTED, ABORT_REQUEST, 0)
 }

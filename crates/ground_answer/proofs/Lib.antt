@@ -1,5 +1,5 @@
 pub mod Laws
 pub mod Outgoings
-pub mod Reasons
+pub mod AbortReasons
 pub mod Own
 pub mod Readings

@@ -11,6 +11,7 @@ use Rattle.ground_answer.specs.declared.record.Link.{Link}
 use Rattle.ground_answer.specs.Sent.{sent}
 use Rattle.ground_answer.specs.declared.sent.Sent.{Sent}
 use Rattle.ground_answer.specs.declared.answer.Answer.{Answer}
+use Rattle.refusals.specs.Refusals.{BAD-RECORD}
 
 -- entries of an action list; beside them 5 is an indication, 16 and a timer's number its stop, 32 and it its start
 abbrev pub START-REQUEST : ℕ
@@ -48,7 +49,7 @@ quietly l s = tells l s 0 (sent [])
 
 -- 29 before any other refusal of a call on a link
 abbrev pub checked : Link → Answer → Answer
-checked l a = pick (good l) a (refusal l 29)
+checked l a = pick (good l) a (refusal l BAD-RECORD)
 
 -- then the refusal of a call that is not permitted
 abbrev pub allowed : Link → Bool → ℕ → Answer → Answer

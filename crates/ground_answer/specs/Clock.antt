@@ -9,6 +9,8 @@ use Rattle.ground_answer.specs.Answers.{quietly, allowed}
 use Rattle.ground_answer.specs.Aborts.{aborted}
 use Rattle.ground_answer.specs.declared.record.Link.{Link}
 use Rattle.ground_answer.specs.declared.answer.Answer.{Answer}
+use Rattle.refusals.specs.Refusals.{ELAPSE-OVER}
+use Rattle.ground_answer.specs.Reasons.{TIMER-EXPIRY}
 
 -- "else each running one loses n"
 unfoldable pub waited : Link → ℕ → Answer
@@ -16,4 +18,4 @@ waited l n = quietly l (begun (l .at) (later n (l .left)))
 
 -- "An elapse of n seconds, 0 to 86,400: if a running timer has n or fewer left (n at least 1), abort 4; else each running one loses n."
 unfoldable pub elapsed : Link → ℕ → Answer
-elapsed l n = allowed l (leb n 86400) 4 (pick (below timers (notDue n (l .left))) (waited l n) (aborted l 4))
+elapsed l n = allowed l (leb n 86400) ELAPSE-OVER (pick (below timers (notDue n (l .left))) (waited l n) (aborted l TIMER-EXPIRY))

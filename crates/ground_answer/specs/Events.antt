@@ -2,7 +2,7 @@
 use Prim.Native.Nat.{ℕ, _+_, _*_}
 use lib.Dec.{eqb}
 use Rattle.link.specs.Tests.{pick}
-use Rattle.link.specs.Names.{DC, EC, PC, EM}
+use Rattle.link.specs.Names.{DC, EC, PC, EM, GROUP}
 use Rattle.ground_tables.specs.Names.{request, cancel, modify, dc-report-ack, dc-report, dc-negative, dc-noncompliance, report-ack, report, positive, noncompliance, cancelled, negative, em-report, em-report-ack, em-positive, em-cancel}
 use Rattle.pdu.specs.declared.uplink.Ground.{Ground}
 use Rattle.pdu.specs.declared.uplink.Ground.the-variants.{CancelAll, CancelContract, CancelEmergencyAck, DemandContract, EventContract, ModifyEmergency, PeriodicContract}
@@ -11,10 +11,11 @@ use Rattle.pdu.specs.declared.downlink.Air.{Air}
 use Rattle.pdu.specs.DownlinkTable.{kindTag}
 use Rattle.pdu.specs.Contents.{numberOf}
 use Rattle.pdu.specs.declared.downlink.Air.the-variants.{CancelEmergency, Demand, Emergency, Event, Negative, Noncompliance, Periodic, Positive, Abort}
+use Rattle.ground_answer.specs.Reasons.{UNDEFINED-ERROR}
 
 -- an event of a module; from 64 on an event is of none: 64 a request that no module has, 65 cancel-all, 68 data that no module lists
 abbrev pub of : ℕ → ℕ → ℕ
-of who kind = 16 * who + kind
+of who kind = GROUP * who + kind
 
 abbrev pub no-request : ℕ
 no-request = of 4 0
@@ -70,4 +71,4 @@ requestEvent (ground.the-variants.Abort n) = no-request
 
 -- "the PDU's reason if an aircraft provider abort reads well, else 6"
 unfoldable pub reasonIn : Air → ℕ
-reasonIn a = pick (eqb (kindTag a) 8) (numberOf a) 6
+reasonIn a = pick (eqb (kindTag a) 8) (numberOf a) UNDEFINED-ERROR

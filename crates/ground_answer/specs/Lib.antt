@@ -1,3 +1,4 @@
+pub mod Reasons
 pub mod Events
 pub mod Sent
 pub mod Record

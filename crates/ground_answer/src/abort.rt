@@ -8,6 +8,7 @@ use ground_tables::names::LI_IDLE;
 use link::executor::add;
 use link::executor::stop_all;
 use pdu::uplink::Ground;
+use refusals::BAD_RECORD;
 ghost use mathlib.Core.Path.{_≡_};
 ghost use Rattle.ground_answer.specs.Aborts.{closed, aborted, closedWhen};
 
@@ -35,7 +36,7 @@ pub fn close_when(l: Link, may: bool, number: u8, entry: u8, reason: u32) -> Ans
     ensures { λ r. ⌜ r ≡ closedWhen l may number entry reason ⌝ }
 {
     if !is_good(l) {
-        return refuse(l, 29);
+        return refuse(l, BAD_RECORD);
     }
     if !may {
         return refuse(l, number);

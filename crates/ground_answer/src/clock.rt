@@ -1,11 +1,14 @@
 // The clock.
 use crate::abort::abort;
 use crate::answer::*;
+use crate::reasons::TIMER_EXPIRY;
 use crate::record::Link;
 use crate::record::is_good;
 use link::clock::after;
 use link::clock::none_due;
 use link::executor::begin;
+use refusals::BAD_RECORD;
+use refusals::ELAPSE_OVER;
 ghost use mathlib.Core.Path.{_≡_};
 ghost use Rattle.ground_answer.specs.Clock.{elapsed};
 
@@ -14,16 +17,16 @@ pub fn elapse(l: Link, n: u32) -> Answer
     ensures { λ r. ⌜ r ≡ elapsed l n ⌝ }
 {
     if !is_good(l) {
-        return refuse(l, 29);
+        return refuse(l, BAD_RECORD);
     }
     if 86400 < n {
-        return refuse(l, 4);
+        return refuse(l, ELAPSE_OVER);
     }
     let at = l.at;
     let left = l.left;
     if none_due(n, left) {
         change(l, begin(at, after(n, left)))
     } else {
-        abort(l, 4)
+        abort(l, TIMER_EXPIRY)
     }
 }

@@ -1,4 +1,5 @@
 // The event that a PDU is: 16 for each module before its own, and the kind.
+use crate::reasons::UNDEFINED_ERROR;
 use ground_tables::names::*;
 use pdu::downlink::Air;
 use pdu::uplink::Ground;
@@ -110,7 +111,7 @@ pub fn reason_in(a: Air) -> u32
     ensures { λ r. ⌜ r ≡ reasonIn a ⌝ }
 {
     let Air::Abort(n) = a else {
-        return 6;
+        return UNDEFINED_ERROR;
     };
     n
 }

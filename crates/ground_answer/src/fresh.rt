@@ -3,6 +3,7 @@ use crate::record::Link;
 use crate::record::make;
 use link::moves::TIMERS;
 use link::watch::settings_ok;
+use refusals::BAD_SETTING;
 ghost use mathlib.Core.Path.{_≡_};
 ghost use Rattle.ground_answer.specs.Record.{fresh};
 ghost use Rattle.ground_answer.specs.Fresh.{opened};
@@ -29,5 +30,8 @@ pub fn open(setting: [u32; TIMERS]) -> Opened
         return Opened { refusal: 0, link };
     }
     let link = idle_link([0; TIMERS]);
-    Opened { refusal: 3, link }
+    Opened {
+        refusal: BAD_SETTING,
+        link,
+    }
 }

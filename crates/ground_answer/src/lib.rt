@@ -4,5 +4,6 @@ pub mod answer;
 pub mod clock;
 pub mod events;
 pub mod fresh;
+pub mod reasons;
 pub mod record;
 pub mod sent;

@@ -13,6 +13,7 @@ use Rattle.ground_answer.specs.Fresh.{opened}
 use Rattle.ground.specs.Runs.{answered, Made}
 use Rattle.host_record.specs.RecordLayout.{linkOf, recordOctets}
 use Rattle.host_record.specs.AnswerLayout.{answerOctets}
+use Rattle.refusals.specs.Refusals.{BAD-RECORD, BAD-SETTING, NO-ROOM}
 
 -- the number that a call gives, and the two buffers after it
 pub record Done : Type 0 where
@@ -28,12 +29,12 @@ left n s o = record { number = n; link = s; answer = o }
 unfoldable pub told : List ℕ → List ℕ → Answer → Done
 told s o a =
     pick (eqb (a .said .refusal) 0)
-    (pick (ltb (length o) 22) (left 6 s o) (record { number = 0; link = recordOctets (a .link); answer = sets o 0 (answerOctets (a .said)) }))
+    (pick (ltb (length o) 22) (left NO-ROOM s o) (record { number = 0; link = recordOctets (a .link); answer = sets o 0 (answerOctets (a .said)) }))
     (left (a .said .refusal) s o)
 
 -- the call by value on the record that the octets spell; other than 77 octets are no record: 29
 unfoldable pub hosted : Call → List ℕ → List ℕ → List ℕ → Done
-hosted call octets s o = pick (eqb (length s) 77) (told s o (answered (linkOf s) call octets)) (left 29 s o)
+hosted call octets s o = pick (eqb (length s) 77) (told s o (answered (linkOf s) call octets)) (left BAD-RECORD s o)
 
 -- the record after a sequence of calls, each with room for its answer
 unfoldable pub kept : List ℕ → List Made → List ℕ
@@ -57,12 +58,12 @@ pub record Opening : Type 0 where
 unfoldable pub opensInto : List ℕ → Opened → Opening
 opensInto s o =
     pick (eqb (o .refusal) 0)
-    (pick (eqb (length s) 77) (record { number = 0; link = recordOctets (o .link) }) (record { number = 6; link = s }))
+    (pick (eqb (length s) 77) (record { number = 0; link = recordOctets (o .link) }) (record { number = NO-ROOM; link = s }))
     (record { number = o .refusal; link = s })
 
 -- other than nine settings: 3
 unfoldable pub made : List ℕ → List ℕ → Opening
-made f s = pick (eqb (length f) 9) (opensInto s (opened (nineOf f))) (record { number = 3; link = s })
+made f s = pick (eqb (length f) 9) (opensInto s (opened (nineOf f))) (record { number = BAD-SETTING; link = s })
 
 pub record Makes (d : Opening) (r : ℕ) (link : List ℕ) : Type 0 where
   pub number-is : r ≡ d .number

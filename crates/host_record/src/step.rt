@@ -8,6 +8,9 @@ use ground::call::Call;
 use ground::call::answer;
 use ground_answer::fresh::open;
 use host_numbers::numbers::number;
+use refusals::BAD_RECORD;
+use refusals::BAD_SETTING;
+use refusals::NO_ROOM;
 ghost use mathlib.Core.Path.{_≡_};
 ghost use Rattle.host_record.specs.Hosting.{hosted, Hosts, nineOf, made, Makes};
 
@@ -16,7 +19,7 @@ pub fn step(link: &mut [u8], call: Call, octets: &[u8], out: &mut [u8]) -> u8
     ensures { λ r. ⌜ Hosts (hosted call (now (octets .entry)) (now (link .entry)) (now (out .entry))) r (now (link .exit)) (now (out .exit)) ⌝ }
 {
     if link.len() != RECORD {
-        return 29;
+        return BAD_RECORD;
     }
     let a = answer(load(link), call, octets);
     let said = a.said;
@@ -25,7 +28,7 @@ pub fn step(link: &mut [u8], call: Call, octets: &[u8], out: &mut [u8]) -> u8
         return refusal;
     }
     if out.len() < ANSWER {
-        return 6;
+        return NO_ROOM;
     }
     let after = a.link;
     save(after, link);
@@ -53,7 +56,7 @@ pub fn make(settings: &[u32], link: &mut [u8]) -> u8
     ensures { λ r. ⌜ Makes (made (now (settings .entry)) (now (link .entry))) r (now (link .exit)) ⌝ }
 {
     if settings.len() != 9 {
-        return 3;
+        return BAD_SETTING;
     }
     let o = open(nine(settings));
     let refusal = o.refusal;
@@ -61,7 +64,7 @@ pub fn make(settings: &[u32], link: &mut [u8]) -> u8
         return refusal;
     }
     if link.len() != RECORD {
-        return 6;
+        return NO_ROOM;
     }
     let l = o.link;
     save(l, link);

@@ -6,6 +6,7 @@ use lib.Dec.{leb}
 use lib.ListN.{getD}
 use Rattle.link.specs.Tests.{both}
 use Rattle.link.specs.Acts.{one}
+use Rattle.link.specs.Names.{STOP}
 
 -- a timer runs and has n or fewer left; so n is at least 1
 unfoldable pub due : ℕ → ℕ → Bool
@@ -21,4 +22,4 @@ later n left = map (λ x. x - n) left
 -- "Stop entries for all running timers, an expired one too, in watch order": those of the timers below t, 16 and the timer's number each
 unfoldable pub stopsOf : ℕ → List ℕ → List ℕ
 stopsOf zero left = []
-stopsOf (suc t) left = stopsOf t left ++ one (leb 1 (getD left t 0)) (16 + t)
+stopsOf (suc t) left = stopsOf t left ++ one (leb 1 (getD left t 0)) (STOP + t)

@@ -5,7 +5,7 @@ use Prim.Native.Nat.{ℕ, _-_, _+_, _*_}
 use lib.ListN.{getD}
 use lib.Dec.{eqb, leb}
 use Rattle.link.specs.Tests.{both, pick}
-use Rattle.link.specs.Names.{no-timer}
+use Rattle.link.specs.Names.{no-timer, GROUP}
 use Rattle.link.specs.declared.moves.Move.{Move}
 
 -- a move: to a state of a module, with at most one timer stopped, an indication, a send and one timer started, in this order
@@ -50,6 +50,6 @@ look (r ∷ rs) s e other = pick (both (eqb s (r .state)) (eqb e (r .event))) (r
 
 -- events come in groups of 16, a group of rows for each module in turn; what is past the last is of no module
 abbrev pub moveIn : ℕ → List (List Row) → List ℕ → ℕ → Move
-moveIn k [] at e = unlisted (e - 16 * k)
+moveIn k [] at e = unlisted (e - GROUP * k)
 moveIn k (rs ∷ rss) at e =
-    pick (leb e (16 * k + 15)) (look rs (getD at k 0) (e - 16 * k) (unlisted (e - 16 * k))) (moveIn (k + 1) rss at e)
+    pick (leb e (GROUP * k + 15)) (look rs (getD at k 0) (e - GROUP * k) (unlisted (e - GROUP * k))) (moveIn (k + 1) rss at e)

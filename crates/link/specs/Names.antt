@@ -1,4 +1,4 @@
--- What the machinery counts: nine timers and five modules.
+-- What the machinery counts, nine timers and five modules, and the entries of an action list that it makes.
 use Prim.Native.Nat.{ℕ}
 
 abbrev pub timers : ℕ
@@ -23,3 +23,17 @@ EM = 3
 
 abbrev pub LI : ℕ
 LI = 4
+
+-- entries: an indication; a stop and a start of a timer have its number added
+abbrev pub IND : ℕ
+IND = 5
+
+abbrev pub STOP : ℕ
+STOP = 16
+
+abbrev pub START : ℕ
+START = 32
+
+-- events come in groups, one for each module
+abbrev pub GROUP : ℕ
+GROUP = 16

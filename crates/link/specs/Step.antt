@@ -6,13 +6,13 @@ use lib.ListN.{getD, set, replicate}
 use Rattle.link.specs.Acts.{acts, pushed, pushedAll, one}
 use Rattle.link.specs.Clock.{stopsOf}
 use Rattle.link.specs.declared.moves.Move.{Move}
-use Rattle.link.specs.Names.{timers}
+use Rattle.link.specs.Names.{timers, IND, STOP, START}
 use Rattle.link.specs.declared.executor.Step.{Step}
 
 -- stop (16 and the timer), indication (5), send, start (32 and the timer)
 unfoldable pub actsOf : Move → ℕ → List ℕ
 actsOf m send =
-    one (ltb (m .stop) timers) (16 + m .stop) ++ one (m .ind) 5 ++ one (m .send) send ++ one (ltb (m .start) timers) (32 + m .start)
+    one (ltb (m .stop) timers) (STOP + m .stop) ++ one (m .ind) IND ++ one (m .send) send ++ one (ltb (m .start) timers) (START + m .start)
 
 -- a stopped timer has none left, a started one what the start loads; a place past the last changes nothing
 unfoldable pub leftAfter : List ℕ → Move → List ℕ → List ℕ

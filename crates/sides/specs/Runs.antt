@@ -5,7 +5,7 @@ use mathlib.Core.List.{List, [], _∷_, _++_}
 use Prim.Native.Nat.{ℕ, _+_, _≤_, _<_}
 use lib.Dec.{T, eqb}
 use lib.ListN.{length, getD, set, replicate}
-use Rattle.link.specs.Names.{timers}
+use Rattle.link.specs.Names.{timers, STOP, START}
 use Rattle.link.specs.Tests.{both, either, pick, below}
 use Rattle.link.specs.Acts.{acts}
 use Rattle.link.specs.Watch.{runs, timerGood}
@@ -114,7 +114,7 @@ module _ (s : Side) where
 
 -- the action list stops or starts the timer t
 unfoldable pub touches : ℕ → Acts → Bool
-touches t a = either (member (16 + t) (a .list)) (member (32 + t) (a .list))
+touches t a = either (member (STOP + t) (a .list)) (member (START + t) (a .list))
 
 -- no call of the sequence stops or starts the timer t
 unfoldable pub Untouched : (s : Side) → ℕ → s .Rec → List (s .Call) → Type 0

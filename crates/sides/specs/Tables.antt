@@ -5,7 +5,7 @@ use Prim.Native.Nat.{ℕ, zero, suc, _+_, _*_}
 use lib.Dec.{eqb, leb}
 use lib.ListN.{length, getD, set}
 use Rattle.link.specs.Tests.{both, either, pick, below}
-use Rattle.link.specs.Names.{timers, EM}
+use Rattle.link.specs.Names.{timers, EM, GROUP}
 use Rattle.link.specs.Watch.{runs, stateOk}
 use Rattle.link.specs.Moves.{Row, moveIn}
 use Rattle.link.specs.Step.{restAt}
@@ -103,7 +103,7 @@ vectors (n ∷ ns) f = below (suc n) (λ k. vectors ns (λ l. f (k ∷ l)))
 -- the rows of the module k at its present state
 abbrev pub rowsFit : Tables → List ℕ → ℕ → List Row → Bool
 rowsFit b at k [] = true
-rowsFit b at k (r ∷ rs) = both (pick (eqb (getD at k 0) (r .state)) (fits b at (16 * k + r .event) (r .does)) true) (rowsFit b at k rs)
+rowsFit b at k (r ∷ rs) = both (pick (eqb (getD at k 0) (r .state)) (fits b at (GROUP * k + r .event) (r .does)) true) (rowsFit b at k rs)
 
 abbrev pub groupsFit : Tables → List ℕ → ℕ → List (List Row) → Bool
 groupsFit b at k [] = true

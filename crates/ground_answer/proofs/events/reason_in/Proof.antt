@@ -1,5 +1,5 @@
 use Rattle.ground_answer.specs.Events.{reasonIn}
-use Rattle.ground_answer.proofs.Reasons.{no-abort}
+use Rattle.ground_answer.proofs.AbortReasons.{no-abort}
 use mathlib.Core.Path.{refl}
 use borrow.Author.Needs.{needs}
 use Rattle.ground_answer.proofs.events.reason_in.Statement.{statement}
