@@ -26,6 +26,8 @@ CONSTANTS = {
                              "LONGITUDE_MINUTES", "LONGITUDE_TENTHS", "LEVEL", "YEAR", "MONTH", "DAY", "HAS_SECONDS", "HOURS", "MINUTES", "SECONDS", "ACCURACY",
                              "UNITS", "AVOIDANCE", "ADDRESS")),
         *("G_" + n for n in ("KIND", "WHAT", "SCALE", "INTERVAL", "ADDRESS", "PROFILE", "GROUND_VECTOR", "AIR_VECTOR", "WEATHER")))},
+    "ground_answer/src/reasons.rt": {f"ADSC_{name}": name for name in (
+        "PROVIDER_FAILURE", "INVALID_PDU", "SEQUENCE_ERROR", "TIMER_EXPIRY", "NO_CONTACT", "UNDEFINED_ERROR")},
     "pdu_parts/src/elements.rt": {
         **{f"ADSC_HAS_{name}": name for name in ("ADDRESS", "PROFILE", "GROUND_VECTOR", "AIR_VECTOR", "WEATHER")},
         "ADSC_URGENT_HAS_ADDRESS": "EMERGENCY_ADDRESS", "ADSC_ON_WAYPOINT_CHANGE": "WAYPOINT_CHANGE", "ADSC_ON_MERIT_CHANGE": "MERIT_CHANGE"},
