@@ -72,7 +72,7 @@ ARRAYS = [
         "ADSC_A_AVOIDANCE": "bit(m.avoidance)", "ADSC_A_ADDRESS": "address"}),
     ("host_numbers/src/downlink.rt", "few_of", "ADSC_AIR_NUMBERS", {"ADSC_A_KIND": "kind", "ADSC_A_WHAT": "a", "ADSC_A_DETAIL": "b", "ADSC_A_COUNT": "count"}),
     ("host_record/src/answer.rt", "answer_octets", "ADSC_ANSWER_OCTETS", {
-        "ADSC_ANSWER_REASON": "(w / 16777216) as u8", "ADSC_ANSWER_ACTIONS": "n", "ADSC_ANSWER_SENT": "m"}),
+        "ADSC_ANSWER_REASON": "q[0]", "ADSC_ANSWER_ACTIONS": "n", "ADSC_ANSWER_SENT": "m"}),
 ]
 
 # Numbers that stand in the text of a function or a type.

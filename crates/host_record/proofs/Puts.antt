@@ -8,18 +8,12 @@ use lib.Seq.{sets, sets-eq, drop-cons}
 use borrow.Author.Tests.{eq-eqb, ne-eqb}
 use Rattle.link.specs.Names.{timers}
 use Rattle.ground_answer.specs.declared.record.Link.{Link}
-use Rattle.host_record.specs.RecordLayout.{quad, quads, five, recordOctets, wordAt, words, saved}
-use Rattle.host_record.specs.laws.Back.{length-quads}
+use Rattle.host_record.specs.RecordLayout.{five, recordOctets, saved}
+use Rattle.octets.specs.Octets.{quad, quads, wordAt, words}
+use Rattle.octets.specs.laws.Numbers.{length-quads}
 
 add-one : (i : ℕ) → i + 1 ≡ suc i
 add-one i = omega arith
-
-pub quad-is : (out : List ℕ) (at a b c d : ℕ) → set (set (set (set out at a) (at + 1) b) (at + 2) c) (at + 3) d ≡ sets out at (a ∷ b ∷ c ∷ d ∷ [])
-quad-is out at a b c d =
-    let e : at + 1 ≡ suc at = omega arith in
-    let f : at + 2 ≡ suc (suc at) = omega arith in
-    let g : at + 3 ≡ suc (suc (suc at)) = omega arith in
-    rw (e, f, g)
 
 pub quads-start : (ws out : List ℕ) (at : ℕ) → sets out (at + 0 * 4) (quads ws) ≡ sets out at (quads ws)
 quads-start ws out at = let e : at + 0 * 4 ≡ at = omega arith in rw e

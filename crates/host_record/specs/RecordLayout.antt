@@ -1,20 +1,13 @@
 -- The link record as octets. Numbers of more than one octet have the most significant octet first.
 use mathlib.Core.List.{List, [], _∷_, _++_}
-use Prim.Native.Nat.{ℕ, zero, suc, _+_, _*_, _/_, _%_}
+use Prim.Native.Nat.{ℕ}
 use lib.Dec.{eqb}
 use lib.ListN.{length, getD}
 use Rattle.link.specs.Tests.{pick}
 use Rattle.link.specs.Names.{timers}
+use Rattle.octets.specs.Octets.{quads, words}
 use Rattle.ground_answer.specs.Record.{made}
 use Rattle.ground_answer.specs.declared.record.Link.{Link}
-
--- a number below 2^32 in four octets
-abbrev pub quad : ℕ → List ℕ
-quad w = w / 16777216 ∷ w / 65536 % 256 ∷ w / 256 % 256 ∷ w % 256 ∷ []
-
-abbrev pub quads : List ℕ → List ℕ
-quads [] = []
-quads (w ∷ ws) = w / 16777216 ∷ w / 65536 % 256 ∷ w / 256 % 256 ∷ w % 256 ∷ quads ws
 
 -- the five states
 abbrev pub five : List ℕ → List ℕ
@@ -25,13 +18,6 @@ unfoldable pub recordOctets : Link → List ℕ
 recordOctets l = quads (l .setting) ++ (quads (l .left) ++ five (l .at))
 
 -- and back; octets that are not there are 0
-abbrev pub wordAt : List ℕ → ℕ → ℕ
-wordAt s i = ((getD s i 0 * 256 + getD s (i + 1) 0) * 256 + getD s (i + 2) 0) * 256 + getD s (i + 3) 0
-
-abbrev pub words : List ℕ → ℕ → ℕ → List ℕ
-words s i zero = []
-words s i (suc n) = wordAt s i ∷ words s (i + 4) n
-
 unfoldable pub linkOf : List ℕ → Link
 linkOf s = made (words s 0 timers) (words s 36 timers) (getD s 72 0 ∷ getD s 73 0 ∷ getD s 74 0 ∷ getD s 75 0 ∷ getD s 76 0 ∷ [])
 

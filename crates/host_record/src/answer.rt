@@ -1,6 +1,7 @@
 // What a call says, in 22 octets. The refusal is not among them: a refused call writes nothing.
 use ground_answer::answer::Said;
 use host_numbers::copy::copy_octets;
+use octets::octets_of;
 ghost use mathlib.Core.Path.{_≡_};
 ghost use lib.Seq.{sets};
 ghost use Rattle.host_record.specs.AnswerLayout.{most8, answerOctets};
@@ -17,7 +18,7 @@ fn count(n: usize) -> u8
 fn answer_octets(s: Said) -> [u8; 22]
     ensures { λ r. ⌜ r ≡ answerOctets s ⌝ }
 {
-    let w = s.reason;
+    let q = octets_of(s.reason);
     let acts = s.acts;
     let a = acts.list;
     let sent = s.sent;
@@ -25,10 +26,10 @@ fn answer_octets(s: Said) -> [u8; 22]
     let n = count(acts.n);
     let m = count(sent.n);
     [
-        (w / 16777216) as u8,
-        (w / 65536 % 256) as u8,
-        (w / 256 % 256) as u8,
-        (w % 256) as u8,
+        q[0],
+        q[1],
+        q[2],
+        q[3],
         n,
         a[0],
         a[1],

@@ -3,38 +3,17 @@ use crate::put::put_words;
 use ground_answer::record::Link;
 use ground_answer::record::make;
 use link::moves::TIMERS;
+use octets::octet;
+use octets::read_word;
 ghost use mathlib.Core.Path.{_≡_};
 ghost use Prim.Native.Nat.{_≤_};
-ghost use lib.ListN.{length, getD};
+ghost use lib.ListN.{length};
 ghost use lib.Seq.{sets};
 ghost use Rattle.link.specs.Names.{timers};
-ghost use Rattle.host_record.specs.RecordLayout.{wordAt, words, five, linkOf, recordOctets, saved};
+ghost use Rattle.octets.specs.Octets.{words};
+ghost use Rattle.host_record.specs.RecordLayout.{five, linkOf, recordOctets, saved};
 
 pub const RECORD: usize = 77;
-
-fn octet(s: &[u8], i: usize) -> u8
-    ensures { λ r. ⌜ r ≡ getD (now (s .entry)) i 0 ⌝ }
-{
-    if i < s.len() { s[i] } else { 0 }
-}
-
-fn wide(s: &[u8], i: usize) -> u32
-    ensures { λ r. ⌜ (r ≡ getD (now (s .entry)) i 0) × (r ≤ 255) ⌝ }
-{
-    let o = octet(s, i);
-    o as u32
-}
-
-fn word(s: &[u8], at: usize) -> u32
-    requires { ⌜ at ≤ 77 ⌝ }
-    ensures { λ r. ⌜ r ≡ wordAt (now (s .entry)) at ⌝ }
-{
-    let a = wide(s, at);
-    let b = wide(s, at + 1);
-    let c = wide(s, at + 2);
-    let d = wide(s, at + 3);
-    ((a * 256 + b) * 256 + c) * 256 + d
-}
 
 fn words_at(s: &[u8], at: usize) -> [u32; TIMERS]
     requires { ⌜ at ≤ 36 ⌝ }
@@ -43,7 +22,7 @@ fn words_at(s: &[u8], at: usize) -> [u32; TIMERS]
     let mut ws = [0u32; TIMERS];
     let mut i: usize = 0;
     while i < TIMERS {
-        ws[i] = word(s, at + i * 4);
+        ws[i] = read_word(s, at + i * 4);
         i += 1;
     }
     ws

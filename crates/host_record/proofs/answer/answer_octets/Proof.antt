@@ -1,9 +1,14 @@
 use Prim.Native.Nat.{ℕ}
 use mathlib.Core.Path.{ap, _∙_}
+use mathlib.Core.List.{List}
+use Rattle.octets.specs.Octets.{quad}
 use Rattle.host_record.specs.AnswerLayout.{most8, laid, answerOctets}
 use borrow.Author.Needs.{needs}
 use Rattle.host_record.proofs.answer.answer_octets.Statement.{statement}
 use Rattle.host_record.proofs.answer.answer_octets.Tie as tie
+
+octets-of-requires : tie.Need-octets-of-requires
+octets-of-requires c κs = search needs
 
 count-requires : tie.Need-count-requires
 count-requires c κs = search needs
@@ -11,17 +16,14 @@ count-requires c κs = search needs
 count-requires-2 : tie.Need-count-requires-2
 count-requires-2 c κs = search needs
 
-cast-t10 : tie.Need-cast-t10
-cast-t10 c = search needs
+array-read-t12 : tie.Need-array-read-t12
+array-read-t12 c = search needs
 
-cast-t13 : tie.Need-cast-t13
-cast-t13 c = search needs
+array-read-t15 : tie.Need-array-read-t15
+array-read-t15 c = search needs
 
-cast-t16 : tie.Need-cast-t16
-cast-t16 c = search needs
-
-cast-t18 : tie.Need-cast-t18
-cast-t18 c = search needs
+array-read-t18 : tie.Need-array-read-t18
+array-read-t18 c = search needs
 
 array-read-t21 : tie.Need-array-read-t21
 array-read-t21 c = search needs
@@ -71,22 +73,29 @@ array-read-t63 c = search needs
 array-read-t66 : tie.Need-array-read-t66
 array-read-t66 c = search needs
 
+array-read-t69 : tie.Need-array-read-t69
+array-read-t69 c = search needs
+
 returns : tie.Need-returns
 unfolding answerOctets
 returns c =
-    let s = c .before .before .before .before .before .before .args .s in
-    ap (λ (n : ℕ). laid s n (c .count2 .result)) (c .before .count .ensures) ∙ ap (laid s (most8 (s .acts .n))) (c .count2 .ensures)
+    let k = c .before in
+    let o = k .before .before .before .before .before in
+    let s = o .before .args .s in
+    ap (λ (q : List ℕ). laid q s (k .count .result) (c .count2 .result)) (o .octets-of .ensures)
+    ∙ ap (λ (n : ℕ). laid (quad (s .reason)) s n (c .count2 .result)) (k .count .ensures)
+    ∙ ap (laid (quad (s .reason)) s (most8 (s .acts .n))) (c .count2 .ensures)
 
 pub answer-octets-spec : {M : Type 1} → statement M
 answer-octets-spec =
     tie.close
     (tie.spec
+    octets-of-requires
     count-requires
     count-requires-2
-    cast-t10
-    cast-t13
-    cast-t16
-    cast-t18
+    array-read-t12
+    array-read-t15
+    array-read-t18
     array-read-t21
     array-read-t24
     array-read-t27
@@ -103,4 +112,5 @@ answer-octets-spec =
     array-read-t60
     array-read-t63
     array-read-t66
+    array-read-t69
     returns)

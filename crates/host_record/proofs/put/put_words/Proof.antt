@@ -3,7 +3,7 @@ use mathlib.Core.Path.{_≡_, refl, sym, _∙_}
 use native.Mathlib.Omega.{arith}
 use lib.ListN.{length, getD, drop}
 use lib.Seq.{sets, length-sets}
-use Rattle.host_record.specs.RecordLayout.{quad, quads}
+use Rattle.octets.specs.Octets.{quad, quads}
 use Rattle.host_record.proofs.Puts.{quads-start, quads-step, quads-end}
 use borrow.Author.Needs.{needs}
 use Rattle.host_record.proofs.put.put_words.Statement.{statement}

@@ -4,7 +4,7 @@ use native.Mathlib.Omega.{arith}
 use lib.ListN.{replicate}
 use lib.Seq.{sets}
 use Rattle.link.specs.Names.{timers}
-use Rattle.host_record.specs.RecordLayout.{words}
+use Rattle.octets.specs.Octets.{words}
 use Rattle.host_record.proofs.Puts.{words-step}
 use borrow.Author.Needs.{needs}
 use Rattle.host_record.proofs.record.words_at.Statement.{statement}
@@ -19,14 +19,14 @@ abbrev μ-loop : tie.MeasureT-loop
 loop-holds : tie.Need-loop-holds Inv-loop μ-loop
 loop-holds c = (omega arith, refl)
 
-mul-word : tie.Need-mul-word Inv-loop μ-loop
-mul-word c = search needs
+mul-read-word : tie.Need-mul-read-word Inv-loop μ-loop
+mul-read-word c = search needs
 
-add-word : tie.Need-add-word Inv-loop μ-loop
-add-word c = search needs
+add-read-word : tie.Need-add-read-word Inv-loop μ-loop
+add-read-word c = search needs
 
-word-requires : tie.Need-word-requires Inv-loop μ-loop
-word-requires c κs = search needs
+read-word-requires : tie.Need-read-word-requires Inv-loop μ-loop
+read-word-requires c κs = search needs
 
 mul-ws : tie.Need-mul-ws Inv-loop μ-loop
 mul-ws c = search needs
@@ -44,7 +44,7 @@ loop-again : tie.Need-loop-again Inv-loop μ-loop
 loop-again c =
     let k = c .before .before in
     let a = k .before .before .args in
-    (omega arith, rw (k .loop .inv .1, c .word .ensures) (words-step (replicate timers 0) (a .s .now) (a .at) (k .loop .i)))
+    (omega arith, rw (k .loop .inv .1, c .read-word .ensures) (words-step (replicate timers 0) (a .s .now) (a .at) (k .loop .i)))
 
 returns : tie.Need-returns Inv-loop μ-loop
 returns c =
@@ -59,9 +59,9 @@ words-at-spec =
     Inv-loop
     μ-loop
     loop-holds
-    mul-word
-    add-word
-    word-requires
+    mul-read-word
+    add-read-word
+    read-word-requires
     mul-ws
     array-write-ws
     add-i

@@ -2,8 +2,8 @@ use mathlib.Core.Path.{sym}
 use native.Mathlib.Omega.{arith}
 use lib.ListN.{List·getD-eq-default}
 use borrow.Author.Needs.{needs}
-use Rattle.host_record.proofs.record.octet.Statement.{statement}
-use Rattle.host_record.proofs.record.octet.Tie as tie
+use Rattle.octets.proofs.octet.Statement.{statement}
+use Rattle.octets.proofs.octet.Tie as tie
 
 shared-slice-read-result : tie.Need-shared-slice-read-result
 shared-slice-read-result c = search needs
