@@ -8,6 +8,7 @@ use lib.ListN.{length, take, drop}
 use Rattle.text.specs.Letters.{ascii}
 use Rattle.text.specs.Text.{pick, wordEnd}
 use Rattle.text.specs.Numbers.{nineOf}
+use Rattle.text.specs.Words.{refusedText}
 use Rattle.text.specs.Page.{Page, Writes}
 use Rattle.text.specs.declared.digits.Nine.{Nine}
 use Rattle.ground_answer.specs.declared.record.Link.{Link}
@@ -17,7 +18,7 @@ use Rattle.ground_answer.specs.declared.answer.Answer.{Answer}
 use Rattle.ground_answer.specs.declared.fresh.Opened.{Opened}
 use Rattle.bench_line.specs.Words.{wordOf}
 use Rattle.bench_line.specs.Lines.{Parsed, unread, makes, parsedBy}
-use Rattle.bench_line.specs.AnswerText.{refusedText, answerText}
+use Rattle.bench_line.specs.AnswerText.{answerText}
 use Rattle.bench.specs.declared.reply.Setup.{Setup}
 
 pub record Reply : Type 0 where

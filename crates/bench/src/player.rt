@@ -1,122 +1,60 @@
-// A bench script from standard input, its trace to standard output: what the programs share.
+// A bench script from standard input, its trace to standard output.
 use crate::trace::Trace;
-use libc::STDIN_FILENO;
-use libc::STDOUT_FILENO;
+use crate::trace::begin;
+use crate::trace::number_line;
+use crate::trace::put_end;
+use text_lines::input::pull_line;
+use text_lines::input::shown;
+use text_lines::input::start;
+use text_lines::input::write_out;
 ghost use mathlib.Core.Path.{_≡_};
-ghost use Prim.Native.Nat.{_≤_};
-ghost use lib.ListN.{length, take};
-ghost use Rattle.io.specs.Counts.{Counts};
-ghost use Rattle.bench.specs.Trace.{stateOf, addedAll, nextAll};
+ghost use Prim.Native.Nat.{_+_, _≤_};
+ghost use lib.ListN.{length};
+ghost use Rattle.bench.specs.Trace.{bumped, numbered, Stands};
 
-// The trace so far, and whether input can come and output can go.
-struct Turn {
-    trace: Trace,
-    more: bool,
-}
-
-struct Fed {
-    trace: Trace,
-    used: usize,
-    open: bool,
-}
-
-// Room for 100,000 octets of text, which is more than one piece has.
+// Twice what a full page has: room for the answer to any line.
 fn page_buffer() -> [u8; 131072]
     ensures { λ r. ⌜ 131072 ≡ length r ⌝ }
 {
     [0; 131072]
 }
 
-// How many octets stand before the pen.
-fn shown(at: usize, out: &[u8]) -> usize
-    ensures { λ r. ⌜ Counts r (now (out .entry)) ⌝ }
+// A line answered on a page that has room: what stood there stays, and the whole answer stands behind it.
+fn add_line(t: Trace, line: &[u8], out: &mut [u8]) -> Trace
+    requires { ⌜ t .at + 34100 ≤ length (now out) ⌝ }
+    ensures { λ r. ⌜ Stands (t .at) (now (out .entry)) (bumped (t .number)) (numbered (bumped (t .number)) (t .setup) (now (line .entry))) r (now (out .exit)) ⌝ }
 {
-    if at < out.len() { at } else { out.len() }
+    number_line(t, line, out)
 }
 
-// Answers the front of a piece of the script and writes the text: at exit it is the page up to the pen.
-fn feed(d: Trace, script: &[u8], line: &mut [u8], out: &mut [u8], lent: bool) -> Fed
-    requires { ⌜ 100000 ≤ length (now out) ⌝ }
-    ensures { λ r. ⌜ (r .used ≤ length (now (script .entry))) × (r .used ≡ 0 → length (now (script .entry)) ≡ 0) × (stateOf (r .trace) (now (line .exit)) ≡ nextAll (length (now (line .entry))) (stateOf d (now (line .entry))) (take (r .used) (now (script .entry)))) × (take (r .trace .at) (now (out .exit)) ≡ addedAll (length (now (line .entry))) (stateOf d (now (line .entry))) (take (r .used) (now (script .entry)))) ⌝ }
+// Answers every line of the input. A proved loop has to end, so it counts down from a number that no run uses up.
+fn run(t: Trace, chunk: &mut [u8], line: &mut [u8], out: &mut [u8]) -> Trace
+    requires { ⌜ 131072 ≤ length (now out) ⌝ }
 {
-    let f = crate::trace::fill(d, script, line, out, lent);
-    let e = f.trace;
-    let n = shown(e.at, out);
-    let open = io::write_all(STDOUT_FILENO, &out[..n]);
-    Fed {
-        trace: e,
-        used: f.used,
-        open,
-    }
-}
-
-// A whole piece of the script.
-fn feed_all(d: Trace, script: &[u8], line: &mut [u8], out: &mut [u8], lent: bool) -> Turn
-    requires { ⌜ 100000 ≤ length (now out) ⌝ }
-{
-    let mut e = d;
-    let mut i = 0;
-    while i < script.len() {
-        let f = feed(e, &script[i..], line, out, lent);
-        e = f.trace;
-        i += f.used;
-        if !f.open {
-            return Turn {
-                trace: e,
-                more: false,
-            };
-        }
-    }
-    Turn {
-        trace: e,
-        more: true,
-    }
-}
-
-// One read, and what it brought.
-fn read_some(d: Trace, chunk: &mut [u8], line: &mut [u8], out: &mut [u8], lent: bool) -> Turn
-    requires { ⌜ 100000 ≤ length (now out) ⌝ }
-{
-    let got = libc::read(STDIN_FILENO, chunk);
-    if got <= 0 {
-        return Turn {
-            trace: d,
-            more: false,
-        };
-    }
-    let n = io::count(got, chunk);
-    feed_all(d, &chunk[..n], line, out, lent)
-}
-
-// Reads to the end of the input. A proved loop has to end, so it counts down from a number that no run uses up.
-fn run(d: Trace, chunk: &mut [u8], line: &mut [u8], out: &mut [u8], lent: bool) -> Trace
-    requires { ⌜ 100000 ≤ length (now out) ⌝ }
-{
-    let mut e = d;
-    let mut turns: u64 = 1099511627776;
+    let mut e = t;
+    let mut input = start();
+    let mut turns: u64 = 18446744073709551615;
     while turns > 0 {
-        let t = read_some(e, chunk, line, out, lent);
-        e = t.trace;
-        if !t.more {
+        let l = pull_line(input, e.at, chunk, line, out);
+        input = l.input;
+        e.at = l.at;
+        if !l.found {
             return e;
         }
+        let n = shown(l.len, line);
+        e = add_line(e, &line[..n], out);
         turns -= 1;
     }
     e
 }
 
-// Plays the whole script. `lent` says how the clock is worked: on a lent record, or by value.
-pub fn play(lent: bool) {
+// Plays the whole script.
+pub fn play() {
     let mut chunk = io::large_buffer();
     let mut line = [0u8; 4097];
     let mut out = page_buffer();
-    let d = crate::trace::begin(&mut out);
-    let first = shown(d.at, &out);
-    if !io::write_all(STDOUT_FILENO, &out[..first]) {
-        return;
-    }
-    let e = run(d, &mut chunk, &mut line, &mut out, lent);
-    let at = crate::trace::finish(e, &line, &mut out, lent);
-    let n = shown(at, &out);
-    io::write_all(STDOUT_FILENO, &out[..n]);
+    let t = begin(&mut out);
+    let e = run(t, &mut chunk, &mut line, &mut out);
+    let at = put_end(&mut out, e.at, e.number);
+    write_out(at, &out);
 }

@@ -1,17 +1,17 @@
 // The answer to one line of a script.
 use bench_line::answer::put_answer;
-use bench_line::answer::put_refused;
 use bench_line::line::LineCall;
 use bench_line::line::parse_line;
 use bench_line::words::SET;
 use bench_line::words::word_of;
 use ground_answer::fresh::open;
 use ground_answer::record::Link;
-use ground_lent::answer_by;
+use ground_lent::answer_lent;
 use text::digits::parse_nine;
 use text::least;
 use text::put_text;
 use text::word_end;
+use text::words::put_refused;
 ghost use mathlib.Core.Path.{_≡_};
 ghost use Prim.Native.Nat.{_≤_};
 ghost use lib.ListN.{length};
@@ -46,7 +46,7 @@ fn blank() -> [u8; 2048]
 }
 
 // A line for a box that has its settings.
-fn play(link: Link, line: &[u8], out: &mut [u8], at: usize, lent: bool) -> Replied
+fn play(link: Link, line: &[u8], out: &mut [u8], at: usize) -> Replied
     ensures { λ r. ⌜ Replies (playReply link (parsedLine (now (line .entry)))) (page (now (out .entry)) at) (r .setup) (page (now (out .exit)) (r .at)) ⌝ }
 {
     let mut octets = blank();
@@ -55,7 +55,7 @@ fn play(link: Link, line: &[u8], out: &mut [u8], at: usize, lent: bool) -> Repli
         return refuse_line(Setup { ready: true, link }, 17, out, at);
     };
     let m = least(n, 2048);
-    let a = answer_by(link, call, &octets[..m], lent);
+    let a = answer_lent(link, call, &octets[..m]);
     let next = a.link;
     let said = a.said;
     let b = put_answer(out, at, said, &octets[..m]);
@@ -91,13 +91,13 @@ fn set_line(b: Setup, tail: &[u8], out: &mut [u8], at: usize) -> Replied
     }
 }
 
-// One line, without its number and its end. `lent` says how the clock is worked; the answer does not depend on it.
-pub fn answer_line(b: Setup, line: &[u8], out: &mut [u8], at: usize, lent: bool) -> Replied
+// One line, without its number and its end.
+pub fn answer_line(b: Setup, line: &[u8], out: &mut [u8], at: usize) -> Replied
     ensures { λ r. ⌜ Replies (lineReply b (now (line .entry))) (page (now (out .entry)) at) (r .setup) (page (now (out .exit)) (r .at)) ⌝ }
 {
     let link = b.link;
     if b.ready {
-        return play(link, line, out, at, lent);
+        return play(link, line, out, at);
     }
     if 4096 < line.len() {
         return refuse_line(b, 17, out, at);

@@ -2,16 +2,19 @@
 use mathlib.Core.Path.{_≡_, refl}
 use mathlib.Core.Bool.{Bool, true, false}
 use mathlib.Core.List.{List, [], _∷_, _++_}
-use Prim.Native.Nat.{ℕ, zero, suc, _+_, _-_, _*_, _/_, _%_, _≤_}
+use Prim.Native.Nat.{ℕ, zero, suc, _+_, _-_, _*_, _/_, _%_, _≤_, _<_}
+use mathlib.Core.Logic.{⊎-elim}
 use native.Mathlib.Nat.{le-trans, min-le-right}
 use native.Mathlib.Omega.{arith}
 use lib.Dec.{eqb, leb, ltb, lit≤}
-use lib.ListN.{length, take, length-append, length-take}
+use lib.ListN.{length, take, length-append, length-take, List·getD-eq-default}
 use Rattle.text.specs.Letters.{ascii}
 use Rattle.text.specs.Text.{pick, hexText, decimal}
-use Rattle.text.proofs.Laws.{decimal-length}
+use Rattle.text.specs.Words.{wordAt, refusedText}
+use Rattle.text.proofs.Laws.{le-or-lt, decimal-length}
 use Rattle.ground_answer.specs.declared.answer.Said.{Said}
-use Rattle.bench_line.specs.AnswerText.{spaced, timerText, timerEntry, entryText, restOf, entriesOf, refusedText, answerText}
+use Rattle.bench_line.specs.AnswerText.{spaced, timerNames, timerText, timerEntry, entryText, restOf, entriesOf, answerText}
+use Rattle.bench_line.proofs.Tables.{each-at}
 
 hex-length : (os : List ℕ) → length (hexText os) ≡ length os + length os
 hex-length [] = refl
@@ -33,9 +36,10 @@ behind t s n p q = omega (arith, length-append t s, p, q)
 timer-length : (t : ℕ) → length (timerText t) ≤ 4097
 unfolding timerText
 timer-length t =
-    of-two (eqb t 0) 4097 _ _ (lit≤ tt) (of-two (eqb t 1) 4097 _ _ (lit≤ tt) (of-two (eqb t 2) 4097 _ _ (lit≤ tt)
-    (of-two (eqb t 3) 4097 _ _ (lit≤ tt) (of-two (eqb t 4) 4097 _ _ (lit≤ tt) (of-two (eqb t 5) 4097 _ _ (lit≤ tt)
-    (of-two (eqb t 6) 4097 _ _ (lit≤ tt) (of-two (eqb t 7) 4097 _ _ (lit≤ tt) (of-two (eqb t 8) 4097 _ _ (lit≤ tt) (lit≤ tt)))))))))
+    ⊎-elim
+    (λ (h : 9 ≤ t). rw (List·getD-eq-default timerNames [] h) (lit≤ tt))
+    (λ (h : t < 9). each-at 9 (λ k. length (wordAt timerNames k) ≤ 4097) (lit≤ tt, (lit≤ tt, (lit≤ tt, (lit≤ tt, (lit≤ tt, (lit≤ tt, (lit≤ tt, (lit≤ tt, (lit≤ tt, tt))))))))) t h)
+    (le-or-lt 9 t)
 
 timer-entry-length : (c : ℕ) → length (timerEntry c) ≤ 4109
 unfolding timerEntry

@@ -1,11 +1,13 @@
 -- An answer as text (01, "Bench examples"): "timers after `start` and `stop`; HEX after `start-req`, `data-req`, `end-req`, `abort-req` if a PDU goes, and after
 -- `ind` (octets received; confirms too); `ind abort n`, `ind peer-abort`, `late`."
 use mathlib.Core.List.{List, [], _∷_, _++_}
-use Prim.Native.Nat.{ℕ, _-_}
+use Prim.Native.Nat.{ℕ, _-_, _≤_}
 use lib.Dec.{eqb, leb, ltb}
-use lib.ListN.{take}
+use lib.ListN.{length, take}
 use Rattle.text.specs.Letters.{ascii}
 use Rattle.text.specs.Text.{pick, hexText, decimal}
+use Rattle.text.specs.Page.{Page, Writes}
+use Rattle.text.specs.Words.{wordAt, refusedText}
 use Rattle.ground_answer.specs.Answers.{START-REQUEST, DATA-REQUEST, END-REQUEST, ABORT-REQUEST, ABORT-IND, PEER-ABORT-IND, LATE}
 use Rattle.ground_answer.specs.declared.answer.Said.{Said}
 
@@ -15,15 +17,11 @@ spaced [] = []
 spaced (o ∷ os) = 32 ∷ hexText (o ∷ os)
 
 -- the timers' names, in watch order
+abbrev pub timerNames : List (List ℕ)
+timerNames = ascii "DC1" ∷ ascii "DC2" ∷ ascii "EC1" ∷ ascii "EC2" ∷ ascii "PC1" ∷ ascii "PC2" ∷ ascii "PC3" ∷ ascii "EM1" ∷ ascii "EM2" ∷ []
+
 unfoldable pub timerText : ℕ → List ℕ
-timerText t =
-    pick (eqb t 0) (ascii "DC1")
-    (pick (eqb t 1) (ascii "DC2")
-    (pick (eqb t 2) (ascii "EC1")
-    (pick (eqb t 3) (ascii "EC2")
-    (pick (eqb t 4) (ascii "PC1")
-    (pick (eqb t 5) (ascii "PC2")
-    (pick (eqb t 6) (ascii "PC3") (pick (eqb t 7) (ascii "EM1") (pick (eqb t 8) (ascii "EM2") []))))))))
+timerText t = wordAt timerNames t
 
 unfoldable pub timerEntry : ℕ → List ℕ
 timerEntry c = pick (ltb c 16) [] (pick (ltb c 32) (ascii " stop " ++ timerText (c - 16)) (ascii " start " ++ timerText (c - 32)))
@@ -47,11 +45,13 @@ abbrev pub entriesOf : List ℕ → List ℕ → ℕ → ℕ → List ℕ → Li
 entriesOf [] octets n reason came = []
 entriesOf (c ∷ cs) octets n reason came = entryText c (take n octets) reason came ++ entriesOf cs octets (restOf c n) reason came
 
-unfoldable pub refusedText : ℕ → List ℕ
-refusedText n = ascii "refused " ++ decimal n
-
 unfoldable pub answerText : Said → List ℕ → List ℕ
 answerText said came =
     pick (eqb (said .refusal) 0)
     (ascii "ok" ++ entriesOf (take (said .acts .n) (said .acts .list)) (said .sent .octets) (said .sent .n) (said .reason) came)
     (refusedText (said .refusal))
+
+-- what `put_answer` gives: the text, which is never long where no more octets came than a line has room for
+pub record Answers (said : Said) (came : List ℕ) (p q : Page) : Type 0 where
+  pub text-is : Writes p (answerText said came) q
+  pub short : length came ≤ 2048 → length (answerText said came) ≤ 33000

@@ -6,11 +6,12 @@ use text::put_byte;
 use text::put_decimal;
 use text::put_hex;
 use text::put_text;
+use text::words::put_refused;
+use text::words::put_word;
 ghost use mathlib.Core.Path.{_≡_};
-ghost use Prim.Native.Nat.{_-_, _≤_};
-ghost use lib.ListN.{length, take, drop};
+ghost use lib.ListN.{take};
 ghost use Rattle.text.specs.Page.{page, Writes};
-ghost use Rattle.bench_line.specs.AnswerText.{spaced, timerText, timerEntry, entryText, restOf, entriesOf, refusedText, answerText};
+ghost use Rattle.bench_line.specs.AnswerText.{spaced, timerText, timerEntry, entryText, restOf, entriesOf, Answers};
 
 // A space and octets, or nothing.
 fn put_spaced(out: &mut [u8], at: usize, s: &[u8]) -> usize
@@ -23,23 +24,17 @@ fn put_spaced(out: &mut [u8], at: usize, s: &[u8]) -> usize
     put_hex(out, a, s)
 }
 
-// A part of a text. A table of words is one text, so that each of them is written by the same call.
-fn put_part(out: &mut [u8], at: usize, s: &[u8], from: usize, to: usize) -> usize
-    requires { ⌜ (from ≤ to) × (to ≤ length (now s)) ⌝ }
-    ensures { λ r. ⌜ Writes (page (now (out .entry)) at) (take (to - from) (drop from (now (s .entry)))) (page (now (out .exit)) r) ⌝ }
-{
-    put_text(out, at, &s[from..to])
-}
-
 // The names of the timers, in watch order.
 fn put_timer(out: &mut [u8], at: usize, t: u8) -> usize
     ensures { λ r. ⌜ Writes (page (now (out .entry)) at) (timerText t) (page (now (out .exit)) r) ⌝ }
 {
-    if 8 < t {
-        return at;
-    }
-    let from = 3 * t as usize;
-    put_part(out, at, b"DC1DC2EC1EC2PC1PC2PC3EM1EM2", from, from + 3)
+    put_word(
+        out,
+        at,
+        b"DC1DC2EC1EC2PC1PC2PC3EM1EM2",
+        &[0, 3, 6, 9, 12, 15, 18, 21, 24, 27],
+        t as usize,
+    )
 }
 
 fn put_timer_entry(out: &mut [u8], at: usize, c: u8) -> usize
@@ -56,9 +51,6 @@ fn put_timer_entry(out: &mut [u8], at: usize, c: u8) -> usize
     put_timer(out, a, c - START)
 }
 
-// Where the word of each entry up to `late` begins in their text, which `put_entry` has. It ends where the next one begins; the entry 0 has none.
-const BEGINS: [usize; 10] = [0, 0, 10, 19, 27, 37, 41, 52, 67, 72];
-
 // One entry; `sent` goes if it is a request, and `came` are the octets that came with the call.
 fn put_entry(out: &mut [u8], at: usize, c: u8, sent: &[u8], reason: u32, came: &[u8]) -> usize
     ensures { λ r. ⌜ Writes (page (now (out .entry)) at) (entryText c (now (sent .entry)) reason (now (came .entry))) (page (now (out .exit)) r) ⌝ }
@@ -66,9 +58,13 @@ fn put_entry(out: &mut [u8], at: usize, c: u8, sent: &[u8], reason: u32, came: &
     if LATE < c {
         return put_timer_entry(out, at, c);
     }
-    let i = c as usize;
-    let text = b" start-req data-req end-req abort-req ind ind abort  ind peer-abort late";
-    let a = put_part(out, at, text, BEGINS[i], BEGINS[i + 1]);
+    let a = put_word(
+        out,
+        at,
+        b" start-req data-req end-req abort-req ind ind abort  ind peer-abort late",
+        &[0, 0, 10, 19, 27, 37, 41, 52, 67, 72],
+        c as usize,
+    );
     match c {
         START_REQUEST..=ABORT_REQUEST => put_spaced(out, a, sent),
         IND => put_spaced(out, a, came),
@@ -104,17 +100,9 @@ fn put_entries(out: &mut [u8], at: usize, said: Said, came: &[u8]) -> usize
     a
 }
 
-// A refusal.
-pub fn put_refused(out: &mut [u8], at: usize, n: u8) -> usize
-    ensures { λ r. ⌜ Writes (page (now (out .entry)) at) (refusedText n) (page (now (out .exit)) r) ⌝ }
-{
-    let a = put_text(out, at, b"refused ");
-    put_decimal(out, a, n as u64)
-}
-
 // An answer to a call with which the octets `came` came.
 pub fn put_answer(out: &mut [u8], at: usize, said: Said, came: &[u8]) -> usize
-    ensures { λ r. ⌜ Writes (page (now (out .entry)) at) (answerText said (now (came .entry))) (page (now (out .exit)) r) × (length (now (came .entry)) ≤ 2048 → length (answerText said (now (came .entry))) ≤ 33000) ⌝ }
+    ensures { λ r. ⌜ Answers said (now (came .entry)) (page (now (out .entry)) at) (page (now (out .exit)) r) ⌝ }
 {
     let refusal = said.refusal;
     if refusal != 0 {

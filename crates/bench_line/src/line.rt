@@ -94,7 +94,7 @@ fn alone(call: Call, tail: &[u8]) -> LineCall
 }
 
 // The call of the word with the number w and what follows it.
-fn call_of(w: u8, tail: &[u8], octets: &mut [u8]) -> LineCall
+fn call_of(w: usize, tail: &[u8], octets: &mut [u8]) -> LineCall
     requires { ⌜ (length (now tail) ≤ 4096) × (2048 ≤ length (now octets)) ⌝ }
     ensures { λ r. ⌜ parsedIn r (now (octets .exit)) ≡ parsedBy w (now (tail .entry)) ⌝ }
 {

@@ -37,13 +37,3 @@ pub fn answer_lent(l: Link, call: Call, octets: &[u8]) -> Answer
     };
     elapse_lent(l, n)
 }
-
-// Every call, with the clock worked on a lent record or by value: the answer is the same.
-pub fn answer_by(l: Link, call: Call, octets: &[u8], lent: bool) -> Answer
-    ensures { λ r. ⌜ r ≡ answered l call (now (octets .entry)) ⌝ }
-{
-    if lent {
-        return answer_lent(l, call, octets);
-    }
-    answer(l, call, octets)
-}

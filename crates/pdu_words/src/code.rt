@@ -1,12 +1,12 @@
 // A PDU as its octets, written back from its value.
-use crate::line::put_refused;
-use crate::line::shown;
 use crate::page::Page;
 use pdu::downlink::Air;
 use pdu::downlink::AirPdu;
 use pdu::uplink::Ground;
 use pdu_parts::lists::Listed;
 use per::pen::Written;
+use text::words::put_refused;
+use text_lines::input::shown;
 
 fn put_written(out: &mut Page, at: usize, w: Written, back: &[u8]) -> usize {
     match w {

@@ -6,7 +6,7 @@
 //   &      the word of that number
 //   {a|b}  the text at that place, or nothing past the last. Signs in a text that is not shown take their numbers too; no text holds a choice.
 use crate::page::Page;
-use crate::words::put_word;
+use crate::words::put_name;
 use std::num::wrapping_add_u32;
 use text::put_byte;
 use text::put_decimal;
@@ -28,7 +28,7 @@ fn put_sign(out: &mut Page, at: usize, c: u8, n: u32) -> usize {
         b'%' => put_octet(out, at, two(n)),
         b'$' => put_octet(out, at, (n % 256) as u8),
         b'\'' => put_byte(out, at, (n % 256) as u8),
-        b'&' => put_word(out, at, n),
+        b'&' => put_name(out, at, n),
         b'{'..=b'}' => at,
         _ => put_byte(out, at, c),
     }
@@ -55,7 +55,7 @@ fn next_after(next: u32, c: u8) -> u32 {
 }
 
 // After the text that is shown, more texts are waited for than there are.
-pub(crate) fn wait_after(wait: u32, c: u8, n: u32) -> u32 {
+fn wait_after(wait: u32, c: u8, n: u32) -> u32 {
     match c {
         b'{' => n,
         b'}' => 0,

@@ -7,19 +7,9 @@ use pdu::AirAnswer;
 use pdu::AirReading;
 use pdu::GroundAnswer;
 use text::Hex;
-ghost use Rattle.io.specs.Counts.{Counts};
-
-// How many octets of a buffer stand before a place.
-pub(crate) fn shown(at: usize, out: &[u8]) -> usize
-    ensures { λ r. ⌜ Counts r (now (out .entry)) ⌝ }
-{
-    if at < out.len() { at } else { out.len() }
-}
-
-pub(crate) fn put_refused(out: &mut Page, at: usize, n: u8) -> usize {
-    let a = text::put_text(out, at, b"refused ");
-    text::put_decimal(out, a, n as u64)
-}
+use text::words::find;
+use text::words::put_refused;
+use text_lines::input::shown;
 
 fn say_refused(task: Task, out: &mut Page, at: usize, n: u8) -> usize {
     let a = put_refused(out, at, n);
@@ -61,14 +51,17 @@ fn say_ground(task: Task, out: &mut Page, at: usize, octets: &[u8]) -> usize {
     }
 }
 
+// The two words, by their numbers in their table.
+const AIR: usize = 1;
+
+const GROUND: usize = 2;
+
 fn say_pdu(task: Task, out: &mut Page, at: usize, word: &[u8], octets: &[u8]) -> usize {
-    if text::same(word, b"air") {
-        return say_air(task, out, at, octets);
+    match find(word, b"airground", &[0, 0, 3, 9]) {
+        AIR => say_air(task, out, at, octets),
+        GROUND => say_ground(task, out, at, octets),
+        _ => say_refused(task, out, at, 17),
     }
-    if text::same(word, b"ground") {
-        return say_ground(task, out, at, octets);
-    }
-    say_refused(task, out, at, 17)
 }
 
 // How many octets of a PDU follow the word: none, or those after a space; 2,049 where they cannot be read.

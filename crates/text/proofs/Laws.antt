@@ -5,14 +5,21 @@ use mathlib.Core.List.{List, [], _∷_}
 use Prim.Native.Nat.{ℕ, zero, suc, _+_, _-_, _*_, _/_, _%_, _≤_, _<_, min}
 use native.Mathlib.Omega.{arith}
 use native.Mathlib.Nat.{eq-or-lt-of-le}
-use mathlib.Core.Logic.{⊎-elim}
+use mathlib.Core.Logic.{⊎-elim, _⊎_, inl, inr}
 use native.Mathlib.Numerals.{add-one, unary-clauses}
-use borrow.Author.Tests.{lt-ltb, le-ltb, eq-eqb, ne-eqb, ltb-true, eqb-true}
-use lib.Dec.{eqb, ltb}
+use borrow.Author.Tests.{lt-ltb, le-ltb, eq-eqb, ne-eqb, ltb-true, leb-true, leb-false, eqb-true}
+use lib.Dec.{eqb, leb, ltb}
 use lib.ListN.{length, getD, take, drop, set, length-set, drop-of-length-le, length-drop}
 use lib.Seq.{drop-cons, sets, take-all, set-out, drop-set-lt, getD-set-same}
 use Rattle.text.specs.Text.{pick, both, digitOf, allHex, hexGood, octetsOf, wordEnd, sameText, glyphOf, hexText, decimalOnto, decimal}
 use Rattle.text.specs.Page.{Page, page, put, wrote, Writes}
+
+pub le-or-lt : (a b : ℕ) → (a ≤ b) ⊎ (b < a)
+le-or-lt a b = go (leb a b) refl
+  where
+    go : (f : Bool) → leb a b ≡ f → (a ≤ b) ⊎ (b < a)
+    go true e = inl (leb-true a b e)
+    go false e = inr (leb-false a b e)
 
 -- the front of what is left
 pub next : (s : List ℕ) (i : ℕ) → i < length s → drop i s ≡ getD s i 0 ∷ drop (i + 1) s

@@ -2,3 +2,4 @@ pub mod Laws
 pub mod Pages
 pub mod Trip
 pub mod Counting
+pub mod Tables

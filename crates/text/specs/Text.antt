@@ -1,10 +1,12 @@
 -- Text as lists of octets: words, hexadecimal octets in lower case (01, "Script words"), and numbers in decimal.
+use mathlib.Core.Path.{_≡_}
 use mathlib.Core.Bool.{Bool, true, false}
 use mathlib.Core.List.{List, [], _∷_}
-use Prim.Native.Nat.{ℕ, zero, suc, _+_, _-_, _*_, _/_, _%_}
+use Prim.Native.Nat.{ℕ, zero, suc, _+_, _-_, _*_, _/_, _%_, _≤_, min}
 use lib.Dec.{eqb, leb, ltb}
-use lib.ListN.{length}
+use lib.ListN.{length, drop}
 use lib.Seq.{sets}
+use Rattle.text.specs.declared.Spelt.{Spelt}
 use Rattle.text.specs.declared.Hex.{Hex}
 use Rattle.text.specs.declared.Hex.the-variants.{Octets, Long, Garbled}
 
@@ -43,10 +45,20 @@ hexOf most s = pick (hexGood s) (pick (leb (length s / 2) most) (Octets (length 
 unfoldable pub hexInto : List ℕ → List ℕ → List ℕ
 hexInto out s = pick (hexGood s) (pick (leb (length s / 2) (length out)) (sets out 0 (octetsOf s)) out) out
 
+-- what `parse_hex` gives
+pub record HexRead (out s : List ℕ) (r : Hex) (after : List ℕ) : Type 0 where
+  pub found-is : r ≡ hexOf (length out) s
+  pub buffer-is : after ≡ hexInto out s
+
 -- where the first space stands, or the end
 abbrev pub wordEnd : List ℕ → ℕ
 wordEnd [] = 0
 wordEnd (c ∷ cs) = pick (eqb c 32) 0 (1 + wordEnd cs)
+
+-- what `word_end` gives: a place in the text
+pub record WordEnds (s : List ℕ) (r : ℕ) : Type 0 where
+  pub is : r ≡ wordEnd s
+  pub within : r ≤ length s
 
 -- the same octets
 abbrev pub sameText : List ℕ → List ℕ → Bool
@@ -72,3 +84,14 @@ decimalOnto (suc k) n t = pick (ltb n 10) t (decimalOnto k (n / 10) ((48 + n / 1
 -- a number below 10^20 in decimal
 unfoldable pub decimal : ℕ → List ℕ
 decimal n = decimalOnto 19 n ((48 + n % 10) ∷ [])
+
+-- what `spell` gives: the digits stand from `from` on in twenty octets
+pub record Spells (n : ℕ) (r : Spelt) : Type 0 where
+  pub digits : drop (r .from) (r .text) ≡ decimal n
+  pub within : r .from ≤ 19
+  pub size : length (r .text) ≡ 20
+
+-- what `least` gives: the lesser of two, which is within the second
+pub record Least (a b r : ℕ) : Type 0 where
+  pub is : r ≡ min a b
+  pub within : r ≤ b

@@ -1,13 +1,14 @@
 // Text on lent octets: words, hexadecimal, whole numbers.
 pub mod digits;
+pub mod words;
 
 ghost use mathlib.Core.Path.{_≡_};
 ghost use mathlib.Core.Bool.{true, false};
 ghost use mathlib.Core.List.{[], _∷_};
-ghost use Prim.Native.Nat.{_+_, _*_, _/_, _%_, _≤_, _<_, min};
-ghost use lib.ListN.{length, drop};
+ghost use Prim.Native.Nat.{_+_, _*_, _/_, _%_, _≤_, _<_};
+ghost use lib.ListN.{length};
 ghost use lib.Seq.{sets};
-ghost use Rattle.text.specs.Text.{digitOf, hexGood, octetsOf, hexOf, hexInto, wordEnd, sameText, glyphOf, hexText, decimal};
+ghost use Rattle.text.specs.Text.{digitOf, hexGood, octetsOf, sameText, glyphOf, hexText, decimal, HexRead, WordEnds, Spells, Least};
 ghost use Rattle.text.specs.Page.{page, Writes};
 
 // What reading hexadecimal text finds.
@@ -22,7 +23,7 @@ pub enum Hex {
 
 // The lesser of two, for the part of a buffer that is there.
 pub fn least(a: usize, b: usize) -> usize
-    ensures { λ r. ⌜ (r ≤ b) × (r ≡ min a b) ⌝ }
+    ensures { λ r. ⌜ Least a b r ⌝ }
 {
     if a < b { a } else { b }
 }
@@ -137,7 +138,7 @@ fn hex_fill(s: &[u8], out: &mut [u8])
 
 // The octets that the hexadecimal text `s` spells, at the start of `out`; a refusal leaves `out` as it was.
 pub fn parse_hex(s: &[u8], out: &mut [u8]) -> Hex
-    ensures { λ r. ⌜ (r ≡ hexOf (length (now (out .entry))) (now (s .entry))) × (now (out .exit) ≡ hexInto (now (out .entry)) (now (s .entry))) ⌝ }
+    ensures { λ r. ⌜ HexRead (now (out .entry)) (now (s .entry)) r (now (out .exit)) ⌝ }
 {
     if !hex_good(s) {
         return Hex::Garbled;
@@ -152,7 +153,7 @@ pub fn parse_hex(s: &[u8], out: &mut [u8]) -> Hex
 
 // Where the first space stands, or the end.
 pub fn word_end(s: &[u8]) -> usize
-    ensures { λ r. ⌜ (r ≡ wordEnd (now (s .entry))) × (r ≤ length (now (s .entry))) ⌝ }
+    ensures { λ r. ⌜ WordEnds (now (s .entry)) r ⌝ }
 {
     let mut i = 0;
     while i < s.len() {
@@ -188,7 +189,7 @@ struct Spelt {
 
 // n's decimal digits, at the end of `text`, and where they start.
 fn spell(n: u64) -> Spelt
-    ensures { λ r. ⌜ (drop (r .from) (r .text) ≡ decimal n) × (r .from ≤ 19) × (length (r .text) ≡ 20) ⌝ }
+    ensures { λ r. ⌜ Spells n r ⌝ }
 {
     let mut text = [48u8; 20];
     let mut i = 19;

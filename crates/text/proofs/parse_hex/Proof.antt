@@ -15,14 +15,14 @@ returns : tie.Need-returns
 unfolding hexOf hexInto
 returns c =
     let g : hexGood (c .before .before .before .before .args .s .now) ≡ false = sym (c .before .hex-good .ensures) ∙ not-true _ (c .if1 .taken) in
-    (rw g, rw g)
+    record { found-is = rw g; buffer-is = rw g }
 
 returns-2 : tie.Need-returns-2
 unfolding hexOf hexInto
 returns-2 c =
     let k = c .before .before .before .before .before in
     let g : hexGood (k .args .s .now) ≡ true = sym (c .before .before .hex-good .ensures) ∙ not-false _ (c .before .if1 .left) in
-    (rw (g, lt-leb _ _ (c .if2 .taken)), rw (g, lt-leb _ _ (c .if2 .taken)))
+    record { found-is = rw (g, lt-leb _ _ (c .if2 .taken)); buffer-is = rw (g, lt-leb _ _ (c .if2 .taken)) }
 
 hex-fill-requires : tie.Need-hex-fill-requires
 hex-fill-requires c κs = (sym (c .before .before .before .hex-good .ensures) ∙ not-false _ (c .before .before .if1 .left), omega arith)
@@ -35,7 +35,7 @@ unfolding hexOf hexInto
 returns-3 c =
     let k = c .before .before .before .before .before .before .before .before .before in
     let g : hexGood (k .args .s .now) ≡ true = sym (c .before .before .before .before .before .before .hex-good .ensures) ∙ not-false _ (c .before .before .before .before .before .if1 .left) in
-    (rw (g, le-leb _ _ (c .before .before .before .before .if2 .left)), rw (g, le-leb _ _ (c .before .before .before .before .if2 .left)) (c .before .before .hex-fill .ensures))
+    record { found-is = rw (g, le-leb _ _ (c .before .before .before .before .if2 .left)); buffer-is = rw (g, le-leb _ _ (c .before .before .before .before .if2 .left)) (c .before .before .hex-fill .ensures) }
 
 pub parse-hex-spec : {M : Type 1} → statement M
 parse-hex-spec =

@@ -25,7 +25,7 @@ same-length c = search needs
 returns : tie.Need-returns
 returns c =
     let s = c .before .before .before .before .before .before .before .spell in
-    rw (← s .ensures .0, ← part-all (s .result .text) (s .result .from) 20 (s .ensures .2)) (c .before .before .put-text .ensures)
+    rw (← s .ensures .digits, ← part-all (s .result .text) (s .result .from) 20 (s .ensures .size)) (c .before .before .put-text .ensures)
 
 pub put-decimal-spec : {M : Type 1} → statement M
 put-decimal-spec =

@@ -58,12 +58,12 @@ loop-again c =
 returns : tie.Need-returns Inv-loop μ-loop
 returns c =
     let k = c .before .before in
-    (sym (digits-done (k .loop .i) (k .loop .rest) _ (omega (arith, leb-false))) ∙ k .loop .inv .2, k .loop .inv .0, k .loop .inv .1)
+    record { digits = sym (digits-done (k .loop .i) (k .loop .rest) _ (omega (arith, leb-false))) ∙ k .loop .inv .2; within = k .loop .inv .0; size = k .loop .inv .1 }
 
 returns-2 : tie.Need-returns-2 Inv-loop μ-loop
 returns-2 c =
     let k = c .before in
-    (sym (digits-none (k .loop .i) (k .loop .rest) _ (omega arith)) ∙ k .loop .inv .2, k .loop .inv .0, k .loop .inv .1)
+    record { digits = sym (digits-none (k .loop .i) (k .loop .rest) _ (omega arith)) ∙ k .loop .inv .2; within = k .loop .inv .0; size = k .loop .inv .1 }
 
 pub spell-spec : {M : Type 1} → statement M
 spell-spec =

@@ -25,7 +25,7 @@ returns : tie.Need-returns Inv-loop μ-loop
 returns c =
     let k = c .before .before .before in
     let s = k .before .args .s .now in
-    (omega (arith, k .loop .inv .1, word-stop s (k .loop .i) (omega arith) (c .if1 .taken)), k .loop .inv .0)
+    record { is = omega (arith, k .loop .inv .1, word-stop s (k .loop .i) (omega arith) (c .if1 .taken)); within = k .loop .inv .0 }
 
 add-i : tie.Need-add-i Inv-loop μ-loop
 add-i c = search needs
@@ -43,7 +43,7 @@ returns-2 : tie.Need-returns-2 Inv-loop μ-loop
 returns-2 c =
     let k = c .before in
     let s = k .before .args .s .now in
-    (omega (arith, k .loop .inv .1, word-out s (k .loop .i) (omega arith)), k .loop .inv .0)
+    record { is = omega (arith, k .loop .inv .1, word-out s (k .loop .i) (omega arith)); within = k .loop .inv .0 }
 
 pub word-end-spec : {M : Type 1} → statement M
 word-end-spec =

@@ -1,32 +1,48 @@
-use mathlib.Core.Path.{_≡_, refl, _∙_}
-use lib.ListN.{length}
 use borrow.Author.Needs.{needs}
+use mathlib.Core.Path.{_≡_, refl, _∙_}
+use native.Mathlib.Omega.{arith}
+use lib.ListN.{length}
 use Rattle.bench.proofs.player.run.Statement.{statement}
 use Rattle.bench.proofs.player.run.Tie as tie
 
 abbrev Inv-loop : tie.InvT-loop
-Inv-loop chunk₀ line₀ out₀ lent e₀ turns₀ chunk line out e turns = (length chunk ≡ length chunk₀) × (length line ≡ length line₀) × (length out ≡ length out₀)
+Inv-loop chunk₀ line₀ out₀ e₀ input₀ turns₀ chunk line out e input turns = (length chunk ≡ length chunk₀) × (length line ≡ length line₀) × (length out ≡ length out₀)
 
 abbrev μ-loop : tie.MeasureT-loop
-μ-loop chunk₀ line₀ out₀ lent e₀ turns₀ chunk line out e turns = turns
+μ-loop chunk₀ line₀ out₀ e₀ input₀ turns₀ chunk line out e input turns = turns
+
+start-requires : tie.Need-start-requires Inv-loop μ-loop
+start-requires c κs = search needs
 
 loop-holds : tie.Need-loop-holds Inv-loop μ-loop
 loop-holds c = (refl, refl, refl)
 
-read-some-requires : tie.Need-read-some-requires Inv-loop μ-loop
-read-some-requires c κs = search needs
+pull-line-requires : tie.Need-pull-line-requires Inv-loop μ-loop
+pull-line-requires c κs = search needs
 
 same-length : tie.Need-same-length Inv-loop μ-loop
-same-length c = c .before .before .before .before .before .before .before .before .before .read-some .kept .1 .0 ∙ c .before .before .before .before .before .before .before .before .before .before .before .before .before .before .loop .inv .0
+same-length c = c .before .before .before .before .before .before .before .pull-line .kept .1 .1 .0 ∙ c .before .before .before .before .before .before .before .before .before .before .before .before .loop .inv .0
 
 same-length-2 : tie.Need-same-length-2 Inv-loop μ-loop
-same-length-2 c = c .before .before .before .before .before .before .before .before .before .read-some .kept .1 .1 .0 ∙ c .before .before .before .before .before .before .before .before .before .before .before .before .before .before .loop .inv .1
+same-length-2 c = c .before .before .before .before .before .before .before .pull-line .kept .1 .1 .1 .0 ∙ c .before .before .before .before .before .before .before .before .before .before .before .before .loop .inv .1
 
 same-length-3 : tie.Need-same-length-3 Inv-loop μ-loop
-same-length-3 c = c .before .before .before .before .before .before .before .before .before .read-some .kept .1 .1 .1 .0 ∙ c .before .before .before .before .before .before .before .before .before .before .before .before .before .before .loop .inv .2
+same-length-3 c = c .before .before .before .before .before .before .before .before .before .before .before .before .loop .inv .2
 
 returns : tie.Need-returns Inv-loop μ-loop
 returns c = search needs
+
+shown-requires : tie.Need-shown-requires Inv-loop μ-loop
+shown-requires c κs = search needs
+
+slice-reshare-prefix-add-line : tie.Need-slice-reshare-prefix-add-line Inv-loop μ-loop
+slice-reshare-prefix-add-line c = search needs
+
+slice-aggregate-add-line : tie.Need-slice-aggregate-add-line Inv-loop μ-loop
+slice-aggregate-add-line c = c .before .shown .ensures .there .1
+
+add-line-requires : tie.Need-add-line-requires Inv-loop μ-loop
+add-line-requires c κs = omega (arith, c .before .before .before .before .before .before .before .before .before .before .before .pull-line .ensures .room, c .before .before .before .before .before .before .before .before .before .before .before .before .before .before .before .before .loop .inv .2, c .before .before .before .before .before .before .before .before .before .before .before .before .before .before .before .before .before .before .before .before .before .pre)
 
 sub-turns : tie.Need-sub-turns Inv-loop μ-loop
 sub-turns c = search needs
@@ -35,10 +51,8 @@ loop-less : tie.Need-loop-less Inv-loop μ-loop
 loop-less c = search needs
 
 loop-again : tie.Need-loop-again Inv-loop μ-loop
-loop-again c =
-    let k = c .before .before .before .before .before .before .before .before .before .read-some .kept .1 in
-    let v = c .before .before .before .before .before .before .before .before .before .before .before .before .before .before .loop .inv in
-    (k .0 ∙ v .0, k .1 .0 ∙ v .1, k .1 .1 .0 ∙ v .2)
+loop-again c = let v = c .before .before .before .before .before .before .before .before .before .before .before .before .before .before .before .before .before .before .before .loop .inv in
+    (c .before .before .before .before .before .before .before .before .before .before .before .before .before .before .pull-line .kept .1 .1 .0 ∙ v .0, c .before .before .before .before .before .before .before .before .before .before .before .before .before .before .pull-line .kept .1 .1 .1 .0 ∙ v .1, c .before .before .add-line .kept .1 .1 .0 ∙ v .2)
 
 same-length-4 : tie.Need-same-length-4 Inv-loop μ-loop
 same-length-4 c = c .before .loop .inv .0
@@ -58,12 +72,17 @@ run-spec =
     (tie.spec
     Inv-loop
     μ-loop
+    start-requires
     loop-holds
-    read-some-requires
+    pull-line-requires
     same-length
     same-length-2
     same-length-3
     returns
+    shown-requires
+    slice-reshare-prefix-add-line
+    slice-aggregate-add-line
+    add-line-requires
     sub-turns
     loop-less
     loop-again

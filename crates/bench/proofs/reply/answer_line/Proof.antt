@@ -35,7 +35,7 @@ word-end-requires : tie.Need-word-end-requires
 word-end-requires c κs = search needs
 
 slice-aggregate-word-of : tie.Need-slice-aggregate-word-of
-slice-aggregate-word-of c = sym (length-take-le _ _ (c .before .word-end .ensures .1))
+slice-aggregate-word-of c = sym (length-take-le _ _ (c .before .word-end .ensures .within))
 
 word-of-requires : tie.Need-word-of-requires
 word-of-requires c κs = search needs
@@ -60,7 +60,7 @@ returns-3 c =
     let w = c .before .before .before .before .before .before in
     let e = w .before .before in
     let start = e .before .before .before .before .before .before in
-    rw (line-set (start .args .b) (now (start .args .line)) (e .word-end .result) (w .word-of .result) (e .before .before .if1 .left) (e .before .if2 .left) (e .word-end .ensures .0) (w .word-of .ensures) (c .before .before .before .before .before .if3 .taken)) (c .before .before .set-line .ensures)
+    rw (line-set (start .args .b) (now (start .args .line)) (e .word-end .result) (w .word-of .result) (e .before .before .if1 .left) (e .before .if2 .left) (e .word-end .ensures .is) (w .word-of .ensures) (c .before .before .before .before .before .if3 .taken)) (c .before .before .set-line .ensures)
 
 refuse-line-requires-2 : tie.Need-refuse-line-requires-2
 refuse-line-requires-2 c κs = search needs
@@ -73,7 +73,7 @@ returns-4 c =
     let w = c .before .before .before .before .before in
     let e = w .before .before in
     let start = e .before .before .before .before .before .before in
-    rw (line-other (start .args .b) (now (start .args .line)) (e .word-end .result) (w .word-of .result) (e .before .before .if1 .left) (e .before .if2 .left) (e .word-end .ensures .0) (w .word-of .ensures) (c .before .before .before .before .if3 .left)) (c .before .before .refuse-line2 .ensures)
+    rw (line-other (start .args .b) (now (start .args .line)) (e .word-end .result) (w .word-of .result) (e .before .before .if1 .left) (e .before .if2 .left) (e .word-end .ensures .is) (w .word-of .ensures) (c .before .before .before .before .if3 .left)) (c .before .before .refuse-line2 .ensures)
 
 pub answer-line-spec : {M : Type 1} → statement M
 answer-line-spec =

@@ -49,17 +49,17 @@ least-requires c κs = search needs
 array-share-prefix-octets : tie.Need-array-share-prefix-octets
 array-share-prefix-octets c = search needs
 
-slice-aggregate-answer-by : tie.Need-slice-aggregate-answer-by
-slice-aggregate-answer-by c = sym (length-take-le _ _ (omega (arith, c .before .least .ensures .0)))
+slice-aggregate-answer-lent : tie.Need-slice-aggregate-answer-lent
+slice-aggregate-answer-lent c = sym (length-take-le _ _ (omega (arith, c .before .least .ensures .within)))
 
-answer-by-requires : tie.Need-answer-by-requires
-answer-by-requires c κs = search needs
+answer-lent-requires : tie.Need-answer-lent-requires
+answer-lent-requires c κs = search needs
 
 array-share-prefix-octets-2 : tie.Need-array-share-prefix-octets-2
 array-share-prefix-octets-2 c = search needs
 
 slice-aggregate-put-answer : tie.Need-slice-aggregate-put-answer
-slice-aggregate-put-answer c = sym (length-take-le _ _ (omega (arith, c .before .before .before .before .before .before .least .ensures .0)))
+slice-aggregate-put-answer c = sym (length-take-le _ _ (omega (arith, c .before .before .before .before .before .before .least .ensures .within)))
 
 put-answer-requires : tie.Need-put-answer-requires
 put-answer-requires c κs = search needs
@@ -79,9 +79,9 @@ returns-2 c =
     let octets = k .parse-line .last .1 .0 in
     let is = with-room (length (blank .result)) line (omega (arith, blank .ensures)) in
     let whole = k .parse-line .kept .1 .0 ∙ sym (blank .ensures) in
-    let short : length (take (l .least .result) octets) ≤ 2048 = omega (arith, l .least .ensures .0, length-take (l .least .result) octets, min-le-left (l .least .result) (length octets)) in
-    rw (← is, ← k .parse-line .ensures, t .told .given .1, ← take-least (t .told .given .0 .1 .0) 2048 octets whole, ← l .least .ensures .1, ← a .answer-by .ensures)
-    (record { bench-is = refl; text-is = c .before .before .put-answer .ensures .0; short = le-trans (c .before .before .put-answer .ensures .1 short) (lit≤ tt) })
+    let short : length (take (l .least .result) octets) ≤ 2048 = omega (arith, l .least .ensures .within, length-take (l .least .result) octets, min-le-left (l .least .result) (length octets)) in
+    rw (← is, ← k .parse-line .ensures, t .told .given .1, ← take-least (t .told .given .0 .1 .0) 2048 octets whole, ← l .least .ensures .is, ← a .answer-lent .ensures)
+    (record { bench-is = refl; text-is = c .before .before .put-answer .ensures .text-is; short = le-trans (c .before .before .put-answer .ensures .short short) (lit≤ tt) })
 
 pub play-spec : {M : Type 1} → statement M
 play-spec =
@@ -97,8 +97,8 @@ play-spec =
     returns
     least-requires
     array-share-prefix-octets
-    slice-aggregate-answer-by
-    answer-by-requires
+    slice-aggregate-answer-lent
+    answer-lent-requires
     array-share-prefix-octets-2
     slice-aggregate-put-answer
     put-answer-requires

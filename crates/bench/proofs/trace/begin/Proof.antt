@@ -1,6 +1,7 @@
 use mathlib.Core.Path.{refl}
+use lib.Dec.{lit≤}
 use Prim.Native.Nat.{_-_}
-use Rattle.bench.specs.Trace.{unset, firstText}
+use Rattle.bench.specs.Trace.{begun}
 use borrow.Author.Needs.{needs}
 use Rattle.bench.proofs.trace.begin.Statement.{statement}
 use Rattle.bench.proofs.trace.begin.Tie as tie
@@ -18,8 +19,9 @@ same-length : tie.Need-same-length
 same-length c = search needs
 
 returns : tie.Need-returns
-unfolding firstText unset
-returns c = (refl, refl, rw (c .idle-link .ensures), c .before .before .before .put-text .ensures)
+unfolding begun
+returns c =
+    record { number-is = refl; setup-is = rw (c .idle-link .ensures); text-is = c .before .before .before .put-text .ensures; short = lit≤ tt }
 
 pub begin-spec : {M : Type 1} → statement M
 begin-spec = tie.close (tie.spec slice-aggregate-put-text put-text-requires idle-link-requires same-length returns)

@@ -1,5 +1,4 @@
 use borrow.Author.Tests.{lt-ltb, le-ltb}
-use Prim.Native.Nat.{_-_}
 use Rattle.bench.specs.Trace.{bumped}
 use borrow.Author.Needs.{needs}
 use Rattle.bench.proofs.trace.bump.Statement.{statement}

@@ -1,4 +1,3 @@
-use Prim.Native.Nat.{_-_}
 use Rattle.text.proofs.Pages.{after}
 use Rattle.bench.specs.Trace.{endText}
 use borrow.Author.Needs.{needs}

@@ -26,7 +26,7 @@ same-length c = search needs
 
 returns : tie.Need-returns
 unfolding answerText
-returns c = (rw (ne-eqb _ 0 (c .before .before .before .before .if1 .taken)) (c .before .before .put-refused .ensures), short-text (c .before .before .before .before .before .before .before))
+returns c = record { text-is = rw (ne-eqb _ 0 (c .before .before .before .before .if1 .taken)) (c .before .before .put-refused .ensures); short = short-text (c .before .before .before .before .before .before .before) }
 
 slice-aggregate-put-text : tie.Need-slice-aggregate-put-text
 slice-aggregate-put-text c = search needs
@@ -42,7 +42,7 @@ same-length-2 c = search needs
 
 returns-2 : tie.Need-returns-2
 unfolding answerText
-returns-2 c = (rw (eq-eqb _ 0 (c .before .before .before .before .before .before .before .before .before .if1 .left)) (after (c .before .before .before .before .before .before .put-text .ensures) (c .before .before .put-entries .ensures)), short-text (c .before .before .before .before .before .before .before .before .before .before .before .before))
+returns-2 c = record { text-is = rw (eq-eqb _ 0 (c .before .before .before .before .before .before .before .before .before .if1 .left)) (after (c .before .before .before .before .before .before .put-text .ensures) (c .before .before .put-entries .ensures)); short = short-text (c .before .before .before .before .before .before .before .before .before .before .before .before) }
 
 pub put-answer-spec : {M : Type 1} → statement M
 put-answer-spec =

@@ -37,10 +37,10 @@ array-read-put-entry : tie.Need-array-read-put-entry Inv-loop μ-loop
 array-read-put-entry c = search needs
 
 array-share-prefix-octets : tie.Need-array-share-prefix-octets Inv-loop μ-loop
-array-share-prefix-octets c = omega (arith, c .before .least2 .ensures .0, eight-sent (c .before .before .before .before .before .before .before .before .before .before .before))
+array-share-prefix-octets c = omega (arith, c .before .least2 .ensures .within, eight-sent (c .before .before .before .before .before .before .before .before .before .before .before))
 
 slice-aggregate-put-entry : tie.Need-slice-aggregate-put-entry Inv-loop μ-loop
-slice-aggregate-put-entry c = sym (length-take-le _ _ (omega (arith, c .before .before .least2 .ensures .0, eight-sent (c .before .before .before .before .before .before .before .before .before .before .before .before))))
+slice-aggregate-put-entry c = sym (length-take-le _ _ (omega (arith, c .before .before .least2 .ensures .within, eight-sent (c .before .before .before .before .before .before .before .before .before .before .before .before))))
 
 put-entry-requires : tie.Need-put-entry-requires Inv-loop μ-loop
 put-entry-requires c κs = search needs
@@ -65,10 +65,10 @@ loop-again c =
     let octets = start .args .said .sent .octets in
     let more = c .before .before .before .before .before .before .before .loop-test .taken in
     let low = c .before .before .before .before .before .before .before .before .before .before .before .least .ensures in
-    let i-in : k .i < start .args .said .acts .n = under-left (k .i) (start .args .said .acts .n) 8 (subst (λ (j : ℕ). k .i < j) (low .1) more) in
+    let i-in : k .i < start .args .said .acts .n = under-left (k .i) (start .args .said .acts .n) 8 (subst (λ (j : ℕ). k .i < j) (low .is) more) in
     let m : take (c .before .before .before .before .before .before .least2 .result) octets ≡ take (k .left) octets =
-    ap (λ (j : ℕ). take j octets) (c .before .before .before .before .before .before .least2 .ensures .1) ∙ take-least (k .left) 8 octets (eight-sent start) in
-    (omega arith, c .before .before .before .put-entry .kept .0 ∙ k .inv .1, entry-step list octets (start .args .said .acts .n) (k .i) (k .left) _ (start .args .said .reason) (now (start .args .came)) _ i-in (omega (arith, eight start, more, low .0)) (c .rest-of .ensures) m (c .before .before .before .put-entry .ensures) ∙ k .inv .2)
+    ap (λ (j : ℕ). take j octets) (c .before .before .before .before .before .before .least2 .ensures .is) ∙ take-least (k .left) 8 octets (eight-sent start) in
+    (omega arith, c .before .before .before .put-entry .kept .0 ∙ k .inv .1, entry-step list octets (start .args .said .acts .n) (k .i) (k .left) _ (start .args .said .reason) (now (start .args .came)) _ i-in (omega (arith, eight start, more, low .within)) (c .rest-of .ensures) m (c .before .before .before .put-entry .ensures) ∙ k .inv .2)
 
 same-length : tie.Need-same-length Inv-loop μ-loop
 same-length c = c .before .loop .inv .1
@@ -79,7 +79,7 @@ returns c =
     let start = c .before .before .before .before .before .before .before .before .before in
     let list = start .args .said .acts .list in
     let low = c .before .before .before .before .least .ensures in
-    let done : length (take (start .args .said .acts .n) list) ≤ k .i = rw (length-take (start .args .said .acts .n) list, eight start, ← low .1) (omega (arith, c .loop-test .left)) in
+    let done : length (take (start .args .said .acts .n) list) ≤ k .i = rw (length-take (start .args .said .acts .n) list, eight start, ← low .is) (omega (arith, c .loop-test .left)) in
     record { is = sym (entry-end (page (k .out) (k .a)) list (start .args .said .sent .octets) (start .args .said .acts .n) (k .i) (k .left) (start .args .said .reason) (now (start .args .came)) done) ∙ k .inv .2 }
 
 pub put-entries-spec : {M : Type 1} → statement M

@@ -1,7 +1,6 @@
 use borrow.Author.Tests.{ne-eqb, lt-ltb, le-ltb}
 use mathlib.Core.Path.{refl}
-use Prim.Native.Nat.{_-_}
-use Rattle.bench_line.proofs.Tables.{word-in, rest, entry-parts, timer-alone}
+use Rattle.bench_line.proofs.Tables.{rest, entry-parts, timer-alone}
 use borrow.Author.Needs.{needs}
 use Rattle.bench_line.proofs.answer.put_entry.Statement.{statement}
 use Rattle.bench_line.proofs.answer.put_entry.Tie as tie
@@ -15,23 +14,14 @@ same-length c = search needs
 returns : tie.Need-returns
 returns c = rw (timer-alone _ _ _ _ (c .before .before .before .before .if1 .taken)) (c .before .before .put-timer-entry .ensures)
 
-mul-put-part : tie.Need-mul-put-part
-mul-put-part c = search needs
+slice-aggregate-put-word : tie.Need-slice-aggregate-put-word
+slice-aggregate-put-word c = search needs
 
-array-read-put-part : tie.Need-array-read-put-part
-array-read-put-part c = search needs
+slice-aggregate-put-word-2 : tie.Need-slice-aggregate-put-word-2
+slice-aggregate-put-word-2 c = search needs
 
-add-put-part : tie.Need-add-put-part
-add-put-part c = search needs
-
-mul-put-part-2 : tie.Need-mul-put-part-2
-mul-put-part-2 c = search needs
-
-array-read-put-part-2 : tie.Need-array-read-put-part-2
-array-read-put-part-2 c = search needs
-
-put-part-requires : tie.Need-put-part-requires
-put-part-requires c κs = word-in _ (c .before .before .before .if1 .left)
+put-word-requires : tie.Need-put-word-requires
+put-word-requires c κs = search needs
 
 put-spaced-requires : tie.Need-put-spaced-requires
 put-spaced-requires c κs = search needs
@@ -49,7 +39,7 @@ returns-2 : tie.Need-returns-2
 unfolding rest
 returns-2 c =
     let p = c .before .before .before .before .before .before .before in
-    entry-parts _ _ _ _ (p .before .before .before .before .if1 .left) (p .put-part .ensures) (rw (c .before .before .before .before .match .keys1) (c .before .before .put-spaced .ensures))
+    entry-parts _ _ _ _ (p .before .before .before .before .if1 .left) (p .put-word .ensures) (rw (c .before .before .before .before .match .keys1) (c .before .before .put-spaced .ensures))
 
 same-length-3 : tie.Need-same-length-3
 same-length-3 c = search needs
@@ -58,7 +48,7 @@ returns-3 : tie.Need-returns-3
 unfolding rest
 returns-3 c =
     let p = c .before .before .before .before .before .before .before in
-    entry-parts _ _ _ _ (p .before .before .before .before .if1 .left) (p .put-part .ensures) (rw (c .before .before .before .before .match .keys2) (c .before .before .put-decimal .ensures))
+    entry-parts _ _ _ _ (p .before .before .before .before .if1 .left) (p .put-word .ensures) (rw (c .before .before .before .before .match .keys2) (c .before .before .put-decimal .ensures))
 
 same-length-4 : tie.Need-same-length-4
 same-length-4 c = search needs
@@ -67,7 +57,7 @@ returns-4 : tie.Need-returns-4
 unfolding rest
 returns-4 c =
     let p = c .before .before .before .before .before .before .before .before .before in
-    entry-parts _ _ _ _ (p .before .before .before .before .if1 .left) (p .put-part .ensures) (rw (ne-eqb _ 5 (c .before .before .before .before .before .before .match .rest .0 .1), ne-eqb _ 6 (c .before .before .before .before .before .before .match .rest .1), le-ltb _ 1 (c .before .before .before .before .before .if2 .left), lt-ltb _ 5 (c .before .before .before .before .if3 .taken)) (c .before .before .put-spaced2 .ensures))
+    entry-parts _ _ _ _ (p .before .before .before .before .if1 .left) (p .put-word .ensures) (rw (ne-eqb _ 5 (c .before .before .before .before .before .before .match .rest .0 .1), ne-eqb _ 6 (c .before .before .before .before .before .before .match .rest .1), le-ltb _ 1 (c .before .before .before .before .before .if2 .left), lt-ltb _ 5 (c .before .before .before .before .if3 .taken)) (c .before .before .put-spaced2 .ensures))
 
 same-length-5 : tie.Need-same-length-5
 same-length-5 c = search needs
@@ -76,7 +66,7 @@ returns-5 : tie.Need-returns-5
 unfolding rest
 returns-5 c =
     let p = c .before .before .before .before in
-    entry-parts _ _ _ _ (p .before .before .before .before .if1 .left) (p .put-part .ensures) (rw (ne-eqb _ 5 (c .before .match .rest .0 .1), ne-eqb _ 6 (c .before .match .rest .1), lt-ltb _ 1 (c .if2 .taken)) (record { is = refl }))
+    entry-parts _ _ _ _ (p .before .before .before .before .if1 .left) (p .put-word .ensures) (rw (ne-eqb _ 5 (c .before .match .rest .0 .1), ne-eqb _ 6 (c .before .match .rest .1), lt-ltb _ 1 (c .if2 .taken)) (record { is = refl }))
 
 same-length-6 : tie.Need-same-length-6
 same-length-6 c = search needs
@@ -85,7 +75,7 @@ returns-6 : tie.Need-returns-6
 unfolding rest
 returns-6 c =
     let p = c .before .before .before .before .before in
-    entry-parts _ _ _ _ (p .before .before .before .before .if1 .left) (p .put-part .ensures) (rw (ne-eqb _ 5 (c .before .before .match .rest .0 .1), ne-eqb _ 6 (c .before .before .match .rest .1), le-ltb _ 1 (c .before .if2 .left), le-ltb _ 5 (c .if3 .left)) (record { is = refl }))
+    entry-parts _ _ _ _ (p .before .before .before .before .if1 .left) (p .put-word .ensures) (rw (ne-eqb _ 5 (c .before .before .match .rest .0 .1), ne-eqb _ 6 (c .before .before .match .rest .1), le-ltb _ 1 (c .before .if2 .left), le-ltb _ 5 (c .if3 .left)) (record { is = refl }))
 
 pub put-entry-spec : {M : Type 1} → statement M
 put-entry-spec =
@@ -94,12 +84,9 @@ put-entry-spec =
     put-timer-entry-requires
     same-length
     returns
-    mul-put-part
-    array-read-put-part
-    add-put-part
-    mul-put-part-2
-    array-read-put-part-2
-    put-part-requires
+    slice-aggregate-put-word
+    slice-aggregate-put-word-2
+    put-word-requires
     put-spaced-requires
     put-decimal-requires
     put-spaced-requires-2

@@ -21,7 +21,7 @@ word-end-requires : tie.Need-word-end-requires
 word-end-requires c κs = search needs
 
 slice-aggregate-word-of : tie.Need-slice-aggregate-word-of
-slice-aggregate-word-of c = sym (length-take-le _ _ (c .before .word-end .ensures .1))
+slice-aggregate-word-of c = sym (length-take-le _ _ (c .before .word-end .ensures .within))
 
 word-of-requires : tie.Need-word-of-requires
 word-of-requires c κs = search needs
@@ -47,7 +47,7 @@ returns-3 c =
     let w = c .before .before .before .before .before in
     let e = w .before .before in
     let line = now (e .before .before .before .before .before .args .line) in
-    let is = word-asked line (e .word-end .result) (w .word-of .result) (e .before .if2 .left) (e .word-end .ensures .0) (w .word-of .ensures) in
+    let is = word-asked line (e .word-end .result) (w .word-of .result) (e .before .if2 .left) (e .word-end .ensures .is) (w .word-of .ensures) in
     rw (le-leb 2048 _ (e .before .before .if1 .left)) (c .before .before .call-of .ensures ∙ is)
 
 pub parse-line-spec : {M : Type 1} → statement M

@@ -21,7 +21,7 @@ slice-reshare-prefix-decode-ground : tie.Need-slice-reshare-prefix-decode-ground
 slice-reshare-prefix-decode-ground c = search needs
 
 slice-aggregate-decode-ground : tie.Need-slice-aggregate-decode-ground
-slice-aggregate-decode-ground c = sym (length-take-le _ _ (c .before .least .ensures .0))
+slice-aggregate-decode-ground c = sym (length-take-le _ _ (c .before .least .ensures .within))
 
 decode-ground-requires : tie.Need-decode-ground-requires
 decode-ground-requires c κs = search needs
@@ -40,7 +40,7 @@ same-length c = search needs
 
 returns : tie.Need-returns
 unfolding parsedIn requestOf heldIn
-returns c = rw (← c .before .before .before .before .before .before .before .before .before .tail-octets .ensures, c .before .before .before .before .before .h .given .1, c .request-call .ensures, c .before .decode-ground .ensures, c .before .before .before .least .ensures .1, take-min _ _) (request-heard _ _)
+returns c = rw (← c .before .before .before .before .before .before .before .before .before .tail-octets .ensures, c .before .before .before .before .before .h .given .1, c .request-call .ensures, c .before .decode-ground .ensures, c .before .before .before .least .ensures .is, take-min _ _) (request-heard _ _)
 
 same-length-2 : tie.Need-same-length-2
 same-length-2 c = search needs

@@ -31,7 +31,7 @@ same-length : tie.Need-same-length
 same-length c = search needs
 
 returns-3 : tie.Need-returns-3
-returns-3 c = rw (c .before .before .parse-hex .ensures .0, c .before .before .parse-hex .ensures .1) (field-heard (now (c .before .before .before .before .before .before .before .before .before .args .tail)) (now (c .before .before .before .before .before .before .before .before .before .args .octets)) (c .before .before .before .before .before .before .if1 .left) (c .before .before .before .before .before .if2 .left) (c .before .before .before .before .before .before .before .before .before .pre .0) (c .before .before .before .before .before .before .before .before .before .pre .1))
+returns-3 c = rw (c .before .before .parse-hex .ensures .found-is, c .before .before .parse-hex .ensures .buffer-is) (field-heard (now (c .before .before .before .before .before .before .before .before .before .args .tail)) (now (c .before .before .before .before .before .before .before .before .before .args .octets)) (c .before .before .before .before .before .before .if1 .left) (c .before .before .before .before .before .if2 .left) (c .before .before .before .before .before .before .before .before .before .pre .0) (c .before .before .before .before .before .before .before .before .before .pre .1))
 
 pub tail-octets-spec : {M : Type 1} → statement M
 tail-octets-spec =

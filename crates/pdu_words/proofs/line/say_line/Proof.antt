@@ -14,7 +14,7 @@ word-end-requires : tie.Need-word-end-requires
 word-end-requires c κs = search needs
 
 slice-aggregate-say-tail : tie.Need-slice-aggregate-say-tail
-slice-aggregate-say-tail c = sym (length-take-le _ _ (c .before .before .word-end .ensures .1))
+slice-aggregate-say-tail c = sym (length-take-le _ _ (c .before .before .word-end .ensures .within))
 
 sub-say-tail : tie.Need-sub-say-tail
 sub-say-tail c = search needs

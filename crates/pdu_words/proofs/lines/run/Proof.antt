@@ -3,19 +3,25 @@ use Rattle.pdu_words.proofs.lines.run.Statement.{statement}
 use Rattle.pdu_words.proofs.lines.run.Tie as tie
 
 abbrev Inv-loop : tie.InvT-loop
-Inv-loop task chunk₀ line₀ out₀ e₀ turns₀ chunk line out e turns = Unit {0}
+Inv-loop task chunk₀ line₀ out₀ at₀ input₀ turns₀ chunk line out at input turns = Unit {0}
 
 abbrev μ-loop : tie.MeasureT-loop
-μ-loop task chunk₀ line₀ out₀ e₀ turns₀ chunk line out e turns = turns
+μ-loop task chunk₀ line₀ out₀ at₀ input₀ turns₀ chunk line out at input turns = turns
+
+start-requires : tie.Need-start-requires Inv-loop μ-loop
+start-requires c κs = search needs
 
 loop-holds : tie.Need-loop-holds Inv-loop μ-loop
 loop-holds c = tt
 
-read-some-requires : tie.Need-read-some-requires Inv-loop μ-loop
-read-some-requires c κs = search needs
+pull-line-requires : tie.Need-pull-line-requires Inv-loop μ-loop
+pull-line-requires c κs = search needs
 
 returns : tie.Need-returns Inv-loop μ-loop
 returns c = search needs
+
+put-answer-requires : tie.Need-put-answer-requires Inv-loop μ-loop
+put-answer-requires c κs = search needs
 
 sub-turns : tie.Need-sub-turns Inv-loop μ-loop
 sub-turns c = search needs
@@ -35,9 +41,11 @@ run-spec =
     (tie.spec
     Inv-loop
     μ-loop
+    start-requires
     loop-holds
-    read-some-requires
+    pull-line-requires
     returns
+    put-answer-requires
     sub-turns
     loop-less
     loop-again

@@ -44,7 +44,7 @@ step-with-requires : tie.Need-step-with-requires
 step-with-requires c κs = search needs
 
 returns-3 : tie.Need-returns-3
-returns-3 c = c .step-with .ensures ∙ step-good (c .before .before .before .before .before .before .before .before .before .args .s .now) _ _ (c .before .before .before .before .before .before .before .if1 .left) (c .before .before .before .before .before .if2 .left) (c .before .before .before .word-end .ensures .0) (c .before .parse-number .ensures)
+returns-3 c = c .step-with .ensures ∙ step-good (c .before .before .before .before .before .before .before .before .before .args .s .now) _ _ (c .before .before .before .before .before .before .before .if1 .left) (c .before .before .before .before .before .if2 .left) (c .before .before .before .word-end .ensures .is) (c .before .parse-number .ensures)
 
 pub number-step-spec : {M : Type 1} → statement M
 number-step-spec =
