@@ -17,6 +17,7 @@ use Rattle.pdu.specs.declared.GroundAnswer.{GroundAnswer}
 use Rattle.pdu.specs.declared.GroundAnswer.the-variants as ground
 use Rattle.host_numbers.specs.UplinkNumbers.{flatGround}
 use Rattle.host_numbers.specs.DownlinkNumbers.{flatAir}
+use Rattle.refusals.specs.Refusals.{NO-ROOM}
 
 -- what reading an aircraft PDU gives a host: the number, its numbers and its list. 6 where they have no room
 pub record AirShown : Type 0 where
@@ -27,8 +28,8 @@ pub record AirShown : Type 0 where
 abbrev pub airShownBy : AirAnswer → Listed → List ℕ → List ℕ → AirShown
 airShownBy (air.Refused n) x f l = record { number = n; numbers = f; list = l }
 airShownBy (air.Good kind) x f l =
-    pick (ltb (length f) 25) (record { number = 6; numbers = f; list = l })
-    (pick (ltb (length l) 128) (record { number = 6; numbers = f; list = l })
+    pick (ltb (length f) 25) (record { number = NO-ROOM; numbers = f; list = l })
+    (pick (ltb (length l) 128) (record { number = NO-ROOM; numbers = f; list = l })
     (record { number = 0; numbers = sets f 0 (flatAir kind (x .count)); list = sets l 0 (x .items) }))
 
 unfoldable pub airShown : AirReading → List ℕ → List ℕ → AirShown
@@ -46,7 +47,7 @@ pub record GroundShown : Type 0 where
 unfoldable pub groundShown : GroundAnswer → List ℕ → GroundShown
 groundShown (ground.Refused n) f = record { number = n; numbers = f }
 groundShown (ground.Good g) f =
-    pick (ltb (length f) 9) (record { number = 6; numbers = f }) (record { number = 0; numbers = sets f 0 (flatGround g) })
+    pick (ltb (length f) 9) (record { number = NO-ROOM; numbers = f }) (record { number = 0; numbers = sets f 0 (flatGround g) })
 
 pub record ShowsGround (d : GroundShown) (r : ℕ) (numbers : List ℕ) : Type 0 where
   pub number-is : r ≡ d .number

@@ -12,6 +12,7 @@ use pdu::decode_ground;
 use pdu::encode_air;
 use pdu::encode_ground;
 use per::pen::Written;
+use refusals::NO_ROOM;
 ghost use mathlib.Core.Path.{_≡_};
 ghost use Rattle.per.specs.Pdu.{readPdu};
 ghost use Rattle.per.specs.Writing.{writePdu};
@@ -32,10 +33,10 @@ pub extern "C" fn adsc_read_air(octets: &[u8], numbers: &mut [u32], list: &mut [
     match answer {
         AirAnswer::Good(kind) => {
             if numbers.len() < 25 {
-                return 6;
+                return NO_ROOM;
             }
             if list.len() < 128 {
-                return 6;
+                return NO_ROOM;
             }
             let listed = r.list;
             let items = listed.items;
@@ -57,7 +58,7 @@ pub extern "C" fn adsc_read_ground(octets: &[u8], numbers: &mut [u32]) -> u8
     match answer {
         GroundAnswer::Good(g) => {
             if numbers.len() < 9 {
-                return 6;
+                return NO_ROOM;
             }
             let flat = flat_ground(g);
             copy_numbers(&flat, numbers);

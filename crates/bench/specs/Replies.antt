@@ -20,6 +20,7 @@ use Rattle.bench_line.specs.Words.{wordOf}
 use Rattle.bench_line.specs.Lines.{Parsed, unread, makes, parsedBy}
 use Rattle.bench_line.specs.AnswerText.{answerText}
 use Rattle.bench.specs.declared.reply.Setup.{Setup}
+use Rattle.refusals.specs.Refusals.{SCRIPT-LINE}
 
 pub record Reply : Type 0 where
   pub setup : Setup
@@ -38,21 +39,21 @@ answerReply a s = record { setup = readySetup (a .link); text = answerText (a .s
 -- a line for a box that has its settings
 unfoldable pub playReply : Link → Parsed → Reply
 playReply l (makes c s) = answerReply (answered l c s) s
-playReply l unread = refusedReply (readySetup l) 17
+playReply l unread = refusedReply (readySetup l) SCRIPT-LINE
 
 -- `set` and nine settings; 3 leaves the box without a link
 unfoldable pub openReply : Setup → Opened → Reply
 openReply b o = pick (eqb (o .refusal) 0) (record { setup = readySetup (o .link); text = ascii "ok" }) (refusedReply b (o .refusal))
 
 unfoldable pub setReply : Setup → List ℕ → Reply
-setReply b tail = pick (nineOf tail .good) (openReply b (opened (nineOf tail .list))) (refusedReply b 17)
+setReply b tail = pick (nineOf tail .good) (openReply b (opened (nineOf tail .list))) (refusedReply b SCRIPT-LINE)
 
 -- "Lines before a good `set`, a `set` after it and lines over 4,096 octets are 17."
 unfoldable pub wordReply : Setup → ℕ → List ℕ → Reply
-wordReply b w tail = pick (b .ready) (playReply (b .link) (parsedBy w tail)) (pick (eqb w 1) (setReply b tail) (refusedReply b 17))
+wordReply b w tail = pick (b .ready) (playReply (b .link) (parsedBy w tail)) (pick (eqb w 1) (setReply b tail) (refusedReply b SCRIPT-LINE))
 
 unfoldable pub lineReply : Setup → List ℕ → Reply
-lineReply b line = pick (ltb 4096 (length line)) (refusedReply b 17) (wordReply b (wordOf (take (wordEnd line) line)) (drop (wordEnd line) line))
+lineReply b line = pick (ltb 4096 (length line)) (refusedReply b SCRIPT-LINE) (wordReply b (wordOf (take (wordEnd line) line)) (drop (wordEnd line) line))
 
 -- what the code gives: the box, and the text on the page, which is never long
 pub record Replies (x : Reply) (p : Page) (b : Setup) (q : Page) : Type 0 where

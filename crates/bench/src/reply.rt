@@ -4,9 +4,13 @@ use bench_line::line::LineCall;
 use bench_line::line::parse_line;
 use bench_line::words::SET;
 use bench_line::words::word_of;
+use ground::call::Call;
+use ground::call::answer;
+use ground_answer::answer::Answer;
 use ground_answer::fresh::open;
 use ground_answer::record::Link;
-use ground_lent::answer_lent;
+use ground_lent::elapse_lent;
+use refusals::SCRIPT_LINE;
 use text::digits::parse_nine;
 use text::least;
 use text::put_text;
@@ -15,6 +19,7 @@ use text::words::put_refused;
 ghost use mathlib.Core.Path.{_≡_};
 ghost use Prim.Native.Nat.{_≤_};
 ghost use lib.ListN.{length};
+ghost use Rattle.ground.specs.Runs.{answered};
 ghost use Rattle.text.specs.Page.{page};
 ghost use Rattle.bench_line.specs.Lines.{parsedLine};
 ghost use Rattle.bench.specs.Replies.{refusedReply, playReply, setReply, lineReply, Replies};
@@ -45,6 +50,16 @@ fn blank() -> [u8; 2048]
     [0; 2048]
 }
 
+// Every call, with the clock worked on a lent record.
+fn answer_lent(l: Link, call: Call, octets: &[u8]) -> Answer
+    ensures { λ r. ⌜ r ≡ answered l call (now (octets .entry)) ⌝ }
+{
+    let Call::Elapse(n) = call else {
+        return answer(l, call, octets);
+    };
+    elapse_lent(l, n)
+}
+
 // A line for a box that has its settings.
 fn play(link: Link, line: &[u8], out: &mut [u8], at: usize) -> Replied
     ensures { λ r. ⌜ Replies (playReply link (parsedLine (now (line .entry)))) (page (now (out .entry)) at) (r .setup) (page (now (out .exit)) (r .at)) ⌝ }
@@ -52,7 +67,7 @@ fn play(link: Link, line: &[u8], out: &mut [u8], at: usize) -> Replied
     let mut octets = blank();
     let told = parse_line(line, &mut octets);
     let LineCall::Makes(call, n) = told else {
-        return refuse_line(Setup { ready: true, link }, 17, out, at);
+        return refuse_line(Setup { ready: true, link }, SCRIPT_LINE, out, at);
     };
     let m = least(n, 2048);
     let a = answer_lent(link, call, &octets[..m]);
@@ -75,7 +90,7 @@ fn set_line(b: Setup, tail: &[u8], out: &mut [u8], at: usize) -> Replied
     let nine = parse_nine(tail);
     let good = nine.good;
     if !good {
-        return refuse_line(b, 17, out, at);
+        return refuse_line(b, SCRIPT_LINE, out, at);
     }
     let list = nine.list;
     let o = open(list);
@@ -100,12 +115,12 @@ pub fn answer_line(b: Setup, line: &[u8], out: &mut [u8], at: usize) -> Replied
         return play(link, line, out, at);
     }
     if 4096 < line.len() {
-        return refuse_line(b, 17, out, at);
+        return refuse_line(b, SCRIPT_LINE, out, at);
     }
     let e = word_end(line);
     let w = word_of(&line[..e]);
     if w == SET {
         return set_line(b, &line[e..], out, at);
     }
-    refuse_line(b, 17, out, at)
+    refuse_line(b, SCRIPT_LINE, out, at)
 }

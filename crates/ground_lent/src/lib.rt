@@ -1,13 +1,10 @@
 // The clock call on the host's one link record, which is lent and changed in place. A thin crate: the record's fields can change below without touching it.
-use ground::call::Call;
-use ground::call::answer;
 use ground_answer::answer::Answer;
 use ground_answer::answer::Said;
 use ground_answer::clock::elapse;
 use ground_answer::record::Link;
 ghost use mathlib.Core.Path.{_≡_};
 ghost use Rattle.ground_answer.specs.Clock.{elapsed};
-ghost use Rattle.ground.specs.Runs.{answered};
 
 // An elapse of n seconds. A refused one leaves the record as it was.
 pub fn clock(link: &mut Link, n: u32) -> Said
@@ -26,14 +23,4 @@ pub fn elapse_lent(l: Link, n: u32) -> Answer
     let mut m = l;
     let said = clock(&mut m, n);
     Answer { link: m, said }
-}
-
-// Every call, with the clock worked on a lent record.
-pub fn answer_lent(l: Link, call: Call, octets: &[u8]) -> Answer
-    ensures { λ r. ⌜ r ≡ answered l call (now (octets .entry)) ⌝ }
-{
-    let Call::Elapse(n) = call else {
-        return answer(l, call, octets);
-    };
-    elapse_lent(l, n)
 }

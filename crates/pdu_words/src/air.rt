@@ -1,6 +1,5 @@
 // Aircraft PDUs. Their numbers: 0 the kind, 1 and 2 what goes with it, 3 the count of the list, 4 presence bits, 5 to 8 latitude, 9 to 12 longitude,
 // 13 level, 14 to 20 time, 21 to 23 figure of merit, 24 address.
-use crate::form::number;
 use crate::form::put_form;
 use crate::lists::NAMES;
 use crate::lists::put_list;
@@ -12,6 +11,9 @@ use crate::words::EVENT;
 use crate::words::REASON;
 use crate::words::REQUEST;
 use crate::words::word;
+use host_numbers::numbers::number;
+use host_numbers::places::*;
+use pdu_parts::elements::ADDRESS;
 
 // What a PDU ends in, where it is no list.
 const REPORT: u32 = 1;
@@ -50,11 +52,11 @@ fn request_of(kind: u32) -> u32 {
 
 // What the start of a line takes: of the last choice, which has one text, the place of `NAMES`.
 fn start(f: &[u32], end: u32) -> [u32; 11] {
-    let first = number(f, 1);
-    let second = number(f, 2);
-    let count = number(f, 3);
+    let first = number(f, A_WHAT);
+    let second = number(f, A_DETAIL);
+    let count = number(f, A_COUNT);
     [
-        number(f, 0),
+        number(f, A_KIND),
         word(EVENT, second),
         word(REQUEST, first),
         word(REASON, second),
@@ -86,42 +88,42 @@ fn addressed(kind: u32, bits: u32) -> u32 {
     if kind == 2 {
         return bits / 2 % 2;
     }
-    bits / 64 % 2
+    bits / ADDRESS % 2
 }
 
 fn report(f: &[u32]) -> [u32; 30] {
-    let north = number(f, 8);
-    let east = number(f, 12);
-    let level = number(f, 13);
-    let address = number(f, 24);
+    let north = number(f, A_LATITUDE_TENTHS);
+    let east = number(f, A_LONGITUDE_TENTHS);
+    let level = number(f, A_LEVEL);
+    let address = number(f, A_ADDRESS);
     [
-        number(f, 1),
-        number(f, 6),
-        number(f, 7),
+        number(f, A_WHAT),
+        number(f, A_LATITUDE),
+        number(f, A_LATITUDE_MINUTES),
         north / 10,
         north % 10,
-        number(f, 5),
-        number(f, 10) / 100,
-        number(f, 10),
-        number(f, 11),
+        number(f, A_SOUTH),
+        number(f, A_LONGITUDE) / 100,
+        number(f, A_LONGITUDE),
+        number(f, A_LONGITUDE_MINUTES),
         east / 10,
         east % 10,
-        number(f, 9),
+        number(f, A_WEST),
         level / 2147483648,
         size(level),
         zeros(level),
-        number(f, 14),
-        number(f, 15),
-        number(f, 16),
-        number(f, 18),
-        number(f, 19),
-        number(f, 17),
-        number(f, 20),
-        number(f, 21),
-        word(ACCURACY, number(f, 21)),
-        number(f, 22),
-        number(f, 23),
-        addressed(number(f, 0), number(f, 4)),
+        number(f, A_YEAR),
+        number(f, A_MONTH),
+        number(f, A_DAY),
+        number(f, A_HOURS),
+        number(f, A_MINUTES),
+        number(f, A_HAS_SECONDS),
+        number(f, A_SECONDS),
+        number(f, A_ACCURACY),
+        word(ACCURACY, number(f, A_ACCURACY)),
+        number(f, A_UNITS),
+        number(f, A_AVOIDANCE),
+        addressed(number(f, A_KIND), number(f, A_ELEMENTS)),
         address / 65536,
         address / 256,
         address,
@@ -130,7 +132,7 @@ fn report(f: &[u32]) -> [u32; 30] {
 
 // The octets are those of the list. The sign of an angle is its hemisphere, so that minus zero shows; 002 counts levels in tens of feet.
 pub fn put_air(out: &mut Page, at: usize, f: &[u32], items: &[u8]) -> usize {
-    let end = end(number(f, 0), number(f, 1), number(f, 2));
+    let end = end(number(f, A_KIND), number(f, A_WHAT), number(f, A_DETAIL));
     let a = put_form(
         out,
         at,
@@ -147,6 +149,6 @@ pub fn put_air(out: &mut Page, at: usize, f: &[u32], items: &[u8]) -> usize {
             accuracy # (&), multiple units {no|yes}, acas {no|yes}{|, aircraft $$$}",
             &report(f),
         ),
-        _ => put_list(out, a, end, number(f, 3), items),
+        _ => put_list(out, a, end, number(f, A_COUNT), items),
     }
 }

@@ -1,5 +1,4 @@
 // Ground PDUs. Their numbers: 0 the kind, 1 what goes with it, 2 and 3 an interval, 4 to 8 how often an element of a report comes.
-use crate::form::number;
 use crate::form::put_form;
 use crate::page::Page;
 use crate::words::ABORT;
@@ -7,6 +6,9 @@ use crate::words::ELEMENT;
 use crate::words::EVENT;
 use crate::words::REQUEST;
 use crate::words::word;
+use host_numbers::numbers::number;
+use host_numbers::places::*;
+use pdu_parts::elements::*;
 
 // A PDU is called what an ack calls it.
 fn request_of(kind: u32, n: u32) -> u32 {
@@ -53,10 +55,10 @@ fn events(kind: u32, bits: u32) -> u32 {
 }
 
 fn start(f: &[u32]) -> [u32; 12] {
-    let kind = number(f, 0);
-    let n = number(f, 1);
-    let times = number(f, 3);
-    let unit = unit(kind, number(f, 2));
+    let kind = number(f, G_KIND);
+    let n = number(f, G_WHAT);
+    let times = number(f, G_INTERVAL);
+    let unit = unit(kind, number(f, G_SCALE));
     let events = events(kind, n);
     [
         word(REQUEST, request_of(kind, n)),
@@ -67,9 +69,9 @@ fn start(f: &[u32]) -> [u32; 12] {
         times,
         times,
         plural(unit, times),
-        events / 128 % 2,
+        events / WAYPOINT_CHANGE % 2,
         word(EVENT, 3),
-        events / 4 % 2,
+        events / MERIT_CHANGE % 2,
         word(EVENT, 8),
     ]
 }
@@ -107,10 +109,10 @@ fn ending(often: u32, n: u32) -> u32 {
     }
 }
 
-// The element whose number is i, and its presence bit.
-fn put_element(out: &mut Page, at: usize, f: &[u32], bit: u32, i: u32) -> usize {
-    let n = number(f, i);
-    let o = often(number(f, 0), number(f, 1) & bit, n);
+// An element by its presence bit, the place of its modulus, and which of the elements it is.
+fn put_element(out: &mut Page, at: usize, f: &[u32], bit: u32, place: usize, which: u32) -> usize {
+    let n = number(f, place);
+    let o = often(number(f, G_KIND), number(f, G_WHAT) & bit, n);
     if o == 0 {
         return at;
     }
@@ -118,7 +120,7 @@ fn put_element(out: &mut Page, at: usize, f: &[u32], bit: u32, i: u32) -> usize 
         out,
         at,
         b", &{|| every report| every #}{|th report|st report|nd report|rd report}",
-        &[word(ELEMENT - 4, i), o, n, ending(o, n)],
+        &[word(ELEMENT, which), o, n, ending(o, n)],
     )
 }
 
@@ -129,9 +131,9 @@ pub fn put_ground(out: &mut Page, at: usize, f: &[u32]) -> usize {
         b"ground: &{||||||| # (&)}{| every # second| every # minute}{|s}{|, &}{|, &}",
         &start(f),
     );
-    let a = put_element(out, a, f, 64, 4);
-    let a = put_element(out, a, f, 32, 5);
-    let a = put_element(out, a, f, 16, 6);
-    let a = put_element(out, a, f, 8, 7);
-    put_element(out, a, f, 4, 8)
+    let a = put_element(out, a, f, ADDRESS, G_ADDRESS, 0);
+    let a = put_element(out, a, f, PROFILE, G_PROFILE, 1);
+    let a = put_element(out, a, f, GROUND_VECTOR, G_GROUND_VECTOR, 2);
+    let a = put_element(out, a, f, AIR_VECTOR, G_AIR_VECTOR, 3);
+    put_element(out, a, f, WEATHER, G_WEATHER, 4)
 }

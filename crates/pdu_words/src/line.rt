@@ -6,6 +6,7 @@ use crate::tell;
 use pdu::AirAnswer;
 use pdu::AirReading;
 use pdu::GroundAnswer;
+use refusals::SCRIPT_LINE;
 use text::Hex;
 use text::words::find;
 use text::words::put_refused;
@@ -60,7 +61,7 @@ fn say_pdu(task: Task, out: &mut Page, at: usize, word: &[u8], octets: &[u8]) ->
     match find(word, b"airground", &[0, 0, 3, 9]) {
         AIR => say_air(task, out, at, octets),
         GROUND => say_ground(task, out, at, octets),
-        _ => say_refused(task, out, at, 17),
+        _ => say_refused(task, out, at, SCRIPT_LINE),
     }
 }
 
@@ -84,7 +85,7 @@ fn say_tail(task: Task, out: &mut Page, at: usize, word: &[u8], tail: &[u8]) -> 
     let mut octets = [0u8; 2048];
     let n = octets_after(tail, &mut octets);
     if 2048 < n {
-        return say_refused(task, out, at, 17);
+        return say_refused(task, out, at, SCRIPT_LINE);
     }
     let m = shown(n, &octets);
     say_pdu(task, out, at, word, &octets[..m])
@@ -92,7 +93,7 @@ fn say_tail(task: Task, out: &mut Page, at: usize, word: &[u8], tail: &[u8]) -> 
 
 pub(crate) fn say_line(task: Task, out: &mut Page, at: usize, line: &[u8]) -> usize {
     if 4096 < line.len() {
-        return say_refused(task, out, at, 17);
+        return say_refused(task, out, at, SCRIPT_LINE);
     }
     let e = text::word_end(line);
     say_tail(task, out, at, &line[..e], &line[e..])

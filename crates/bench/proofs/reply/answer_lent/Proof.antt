@@ -1,7 +1,7 @@
 use Rattle.ground.specs.Runs.{answered}
 use borrow.Author.Needs.{needs}
-use Rattle.ground_lent.proofs.answer_lent.Statement.{statement}
-use Rattle.ground_lent.proofs.answer_lent.Tie as tie
+use Rattle.bench.proofs.reply.answer_lent.Statement.{statement}
+use Rattle.bench.proofs.reply.answer_lent.Tie as tie
 
 enum-known-call : tie.Need-enum-known-call
 enum-known-call c = search needs
