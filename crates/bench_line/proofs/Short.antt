@@ -2,11 +2,11 @@
 use mathlib.Core.Path.{_≡_, refl}
 use mathlib.Core.Bool.{Bool, true, false}
 use mathlib.Core.List.{List, [], _∷_, _++_}
-use Prim.Native.Nat.{ℕ, zero, suc, _+_, _-_, _*_, _/_, _%_, _≤_, _<_}
+use Prim.Native.Nat.{ℕ, _+_, _-_, _*_, _≤_, _<_}
 use mathlib.Core.Logic.{⊎-elim}
 use native.Mathlib.Nat.{le-trans, min-le-right}
 use native.Mathlib.Omega.{arith}
-use lib.Dec.{eqb, leb, ltb, lit≤}
+use lib.Dec.{eqb, ltb, lit≤}
 use lib.ListN.{length, take, length-append, length-take, List·getD-eq-default}
 use Rattle.text.specs.Letters.{ascii}
 use Rattle.text.specs.Text.{pick, hexText, decimal}

@@ -2,12 +2,11 @@
 use mathlib.Core.Path.{_≡_, refl, sym, subst}
 use mathlib.Core.List.{List, [], _∷_, _++_}
 use mathlib.Core.Logic.{⊎-elim}
-use Prim.Native.Nat.{ℕ, zero, suc, _+_, _-_, _*_, _≤_, _<_}
+use Prim.Native.Nat.{ℕ, zero, suc, _+_, _-_, _≤_, _<_}
 use native.Mathlib.Nat.{not-suc-le-zero, le-of-suc-le-suc, eq-or-lt-of-le}
 use native.Mathlib.Omega.{arith}
 use borrow.Author.Tests.{ne-eqb}
-use lib.Dec.{eqb, ltb, lit≤}
-use lib.ListN.{getD, take, drop}
+use lib.Dec.{eqb, ltb}
 use Rattle.text.specs.Letters.{ascii}
 use Rattle.text.specs.Text.{pick, decimal}
 use Rattle.text.specs.Words.{wordAt, foundFrom}

@@ -2,16 +2,15 @@
 use mathlib.Core.Path.{_≡_, refl, sym, ap, subst, _∙_}
 use mathlib.Core.Bool.{Bool, true, false}
 use mathlib.Core.List.{List, [], _∷_, _++_, append-nil, append-assoc}
-use mathlib.Core.Logic.{⊎-elim, _⊎_, inl, inr}
-use Prim.Native.Nat.{ℕ, suc, _+_, _≤_, _<_, min}
+use mathlib.Core.Logic.{⊎-elim, _⊎_}
+use Prim.Native.Nat.{ℕ, suc, _+_, _≤_, _<_}
 use native.Mathlib.Nat.{min-le-right}
-use native.Mathlib.Numerals.{add-one}
 use native.Mathlib.Omega.{arith}
 use lib.Dec.{ltb}
 use lib.ListN.{length, take, drop, set, length-set, length-take}
 use lib.Seq.{take-all, take-at, take-suc-set, length-take-le, drop-drop}
 use Rattle.text.specs.Text.{pick}
-use Rattle.text.specs.Page.{Page, page, put, wrote, Writes}
+use Rattle.text.specs.Page.{Page, page, wrote, Writes}
 use Rattle.text.proofs.Laws.{le-or-lt, put-full, take-min}
 use Rattle.text.proofs.Pages.{put-fits}
 use Rattle.text_lines.specs.Lines.{gathered, Gathers}

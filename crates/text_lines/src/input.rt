@@ -18,7 +18,7 @@ pub struct Input {
     pub open: bool,
 }
 
-// `len` octets of a line are kept, and the pen is at `at` on the page.
+// `len` octets of a line are kept, if one was `found`, and the pen is at `at` on the page.
 pub struct Line {
     pub input: Input,
     pub at: usize,
