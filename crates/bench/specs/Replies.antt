@@ -7,10 +7,10 @@ use lib.Dec.{eqb, ltb}
 use lib.ListN.{length, take, drop}
 use Rattle.text.specs.Letters.{ascii}
 use Rattle.text.specs.Text.{pick, wordEnd}
-use Rattle.text.specs.Numbers.{nineOf}
+use Rattle.bench_line.specs.Settings.{settingsIn}
 use Rattle.text.specs.Words.{refusedText}
 use Rattle.text.specs.Page.{Page, Writes}
-use Rattle.text.specs.declared.digits.Nine.{Nine}
+use Rattle.bench_line.specs.declared.settings.Settings.{Settings}
 use Rattle.ground_answer.specs.declared.record.Link.{Link}
 use Rattle.ground_answer.specs.Fresh.{opened}
 use Rattle.ground.specs.Runs.{answered}
@@ -46,7 +46,7 @@ unfoldable pub openReply : Setup → Opened → Reply
 openReply b o = pick (eqb (o .refusal) 0) (record { setup = readySetup (o .link); text = ascii "ok" }) (refusedReply b (o .refusal))
 
 unfoldable pub setReply : Setup → List ℕ → Reply
-setReply b tail = pick (nineOf tail .good) (openReply b (opened (nineOf tail .list))) (refusedReply b SCRIPT-LINE)
+setReply b tail = pick (settingsIn tail .good) (openReply b (opened (settingsIn tail .list))) (refusedReply b SCRIPT-LINE)
 
 -- "Lines before a good `set`, a `set` after it and lines over 4,096 octets are 17."
 unfoldable pub wordReply : Setup → ℕ → List ℕ → Reply

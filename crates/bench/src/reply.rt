@@ -2,6 +2,7 @@
 use bench_line::answer::put_answer;
 use bench_line::line::LineCall;
 use bench_line::line::parse_line;
+use bench_line::settings::parse_settings;
 use bench_line::words::SET;
 use bench_line::words::word_of;
 use ground::call::Call;
@@ -11,7 +12,6 @@ use ground_answer::fresh::open;
 use ground_answer::record::Link;
 use ground_lent::elapse_lent;
 use refusals::SCRIPT_LINE;
-use text::digits::parse_nine;
 use text::least;
 use text::put_text;
 use text::word_end;
@@ -87,12 +87,12 @@ fn play(link: Link, line: &[u8], out: &mut [u8], at: usize) -> Replied
 fn set_line(b: Setup, tail: &[u8], out: &mut [u8], at: usize) -> Replied
     ensures { λ r. ⌜ Replies (setReply b (now (tail .entry))) (page (now (out .entry)) at) (r .setup) (page (now (out .exit)) (r .at)) ⌝ }
 {
-    let nine = parse_nine(tail);
-    let good = nine.good;
+    let set = parse_settings(tail);
+    let good = set.good;
     if !good {
         return refuse_line(b, SCRIPT_LINE, out, at);
     }
-    let list = nine.list;
+    let list = set.list;
     let o = open(list);
     let refusal = o.refusal;
     if refusal != 0 {

@@ -12,7 +12,8 @@ use Rattle.ground_answer.specs.Fresh.{opened}
 use Rattle.ground.specs.Runs.{answered}
 use Rattle.host_record.specs.RecordLayout.{linkOf, recordOctets}
 use Rattle.host_record.specs.AnswerLayout.{answerOctets}
-use Rattle.host_record.specs.Hosting.{hosted, told, Hosts, nineOf, made, opensInto, Makes}
+use Rattle.link.specs.Names.{timers}
+use Rattle.host_record.specs.Hosting.{hosted, told, Hosts, settingsOf, made, opensInto, Makes}
 
 module _ (call : Call) (octets s o : List ℕ) where
   pub no-record : (length s ≡ 77 → ⊥) → Hosts (hosted call octets s o) 29 s o
@@ -34,20 +35,20 @@ module _ (call : Call) (octets s o : List ℕ) where
       accepted l x y p q = rw (eq-eqb (length s) 77 h, ← e, eq-eqb (a .said .refusal) 0 n, le-ltb (length o) 22 l) (record { number-is = refl; link-is = p; answer-is = q })
 
 module _ (f s : List ℕ) where
-  pub not-nine : (length f ≡ 9 → ⊥) → Makes (made f s) 3 s
+  pub not-all : (length f ≡ timers → ⊥) → Makes (made f s) 3 s
   unfolding made
-  not-nine h = rw (ne-eqb (length f) 9 h) (record { number-is = refl; link-is = refl })
+  not-all h = rw (ne-eqb (length f) timers h) (record { number-is = refl; link-is = refl })
 
-  module _ (h : length f ≡ 9) (o : Opened) (e : o ≡ opened (nineOf f)) where
+  module _ (h : length f ≡ timers) (o : Opened) (e : o ≡ opened (settingsOf f)) where
     pub not-made : (o .refusal ≡ 0 → ⊥) → Makes (made f s) (o .refusal) s
     unfolding made opensInto
-    not-made n = rw (eq-eqb (length f) 9 h, ← e, ne-eqb (o .refusal) 0 n) (record { number-is = refl; link-is = refl })
+    not-made n = rw (eq-eqb (length f) timers h, ← e, ne-eqb (o .refusal) 0 n) (record { number-is = refl; link-is = refl })
 
     module _ (n : o .refusal ≡ 0) where
       pub no-place : (length s ≡ 77 → ⊥) → Makes (made f s) 6 s
       unfolding made opensInto
-      no-place k = rw (eq-eqb (length f) 9 h, ← e, eq-eqb (o .refusal) 0 n, ne-eqb (length s) 77 k) (record { number-is = refl; link-is = refl })
+      no-place k = rw (eq-eqb (length f) timers h, ← e, eq-eqb (o .refusal) 0 n, ne-eqb (length s) 77 k) (record { number-is = refl; link-is = refl })
 
       pub is-made : length s ≡ 77 → (x : List ℕ) → x ≡ recordOctets (o .link) → Makes (made f s) 0 x
       unfolding made opensInto
-      is-made k x p = rw (eq-eqb (length f) 9 h, ← e, eq-eqb (o .refusal) 0 n, eq-eqb (length s) 77 k) (record { number-is = refl; link-is = p })
+      is-made k x p = rw (eq-eqb (length f) timers h, ← e, eq-eqb (o .refusal) 0 n, eq-eqb (length s) 77 k) (record { number-is = refl; link-is = p })

@@ -6,6 +6,7 @@ use lib.Dec.{eqb, ltb}
 use lib.ListN.{length, getD, replicate}
 use lib.Seq.{sets}
 use Rattle.link.specs.Tests.{pick}
+use Rattle.link.specs.Names.{timers}
 use Rattle.ground_answer.specs.declared.answer.Answer.{Answer}
 use Rattle.ground_answer.specs.declared.fresh.Opened.{Opened}
 use Rattle.ground.specs.declared.call.Call.{Call}
@@ -47,9 +48,9 @@ pub record Hosts (d : Done) (r : ℕ) (link answer : List ℕ) : Type 0 where
   pub answer-is : answer ≡ d .answer
 
 -- ---- a new link
-unfoldable pub nineOf : List ℕ → List ℕ
-nineOf f =
-    getD f 0 0 ∷ getD f 1 0 ∷ getD f 2 0 ∷ getD f 3 0 ∷ getD f 4 0 ∷ getD f 5 0 ∷ getD f 6 0 ∷ getD f 7 0 ∷ getD f 8 0 ∷ []
+-- missing settings count as 0
+unfoldable pub settingsOf : List ℕ → List ℕ
+settingsOf f = sets (replicate timers 0) 0 f
 
 pub record Opening : Type 0 where
   pub number : ℕ
@@ -63,7 +64,7 @@ opensInto s o =
 
 -- other than nine settings: 3
 unfoldable pub made : List ℕ → List ℕ → Opening
-made f s = pick (eqb (length f) 9) (opensInto s (opened (nineOf f))) (record { number = BAD-SETTING; link = s })
+made f s = pick (eqb (length f) timers) (opensInto s (opened (settingsOf f))) (record { number = BAD-SETTING; link = s })
 
 pub record Makes (d : Opening) (r : ℕ) (link : List ℕ) : Type 0 where
   pub number-is : r ≡ d .number

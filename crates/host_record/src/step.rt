@@ -7,12 +7,13 @@ use crate::record::save;
 use ground::call::Call;
 use ground::call::answer;
 use ground_answer::fresh::open;
-use host_numbers::numbers::number;
+use host_numbers::copy::copy_numbers;
+use link::moves::TIMERS;
 use refusals::BAD_RECORD;
 use refusals::BAD_SETTING;
 use refusals::NO_ROOM;
 ghost use mathlib.Core.Path.{_≡_};
-ghost use Rattle.host_record.specs.Hosting.{hosted, Hosts, nineOf, made, Makes};
+ghost use Rattle.host_record.specs.Hosting.{hosted, Hosts, settingsOf, made, Makes};
 
 // The record is read and checked on each call, and written back only where the call is accepted and its answer has room.
 pub fn step(link: &mut [u8], call: Call, octets: &[u8], out: &mut [u8]) -> u8
@@ -36,29 +37,22 @@ pub fn step(link: &mut [u8], call: Call, octets: &[u8], out: &mut [u8]) -> u8
     0
 }
 
-fn nine(f: &[u32]) -> [u32; 9]
-    ensures { λ r. ⌜ r ≡ nineOf (now (f .entry)) ⌝ }
+// The settings in an array; missing ones count as 0.
+fn settings_of(f: &[u32]) -> [u32; TIMERS]
+    ensures { λ r. ⌜ r ≡ settingsOf (now (f .entry)) ⌝ }
 {
-    [
-        number(f, 0),
-        number(f, 1),
-        number(f, 2),
-        number(f, 3),
-        number(f, 4),
-        number(f, 5),
-        number(f, 6),
-        number(f, 7),
-        number(f, 8),
-    ]
+    let mut list = [0u32; TIMERS];
+    copy_numbers(f, &mut list);
+    list
 }
 
 pub fn make(settings: &[u32], link: &mut [u8]) -> u8
     ensures { λ r. ⌜ Makes (made (now (settings .entry)) (now (link .entry))) r (now (link .exit)) ⌝ }
 {
-    if settings.len() != 9 {
+    if settings.len() != TIMERS {
         return BAD_SETTING;
     }
-    let o = open(nine(settings));
+    let o = open(settings_of(settings));
     let refusal = o.refusal;
     if refusal != 0 {
         return refusal;

@@ -12,7 +12,7 @@ ghost use mathlib.Core.Path.{_≡_};
 ghost use Prim.Native.Nat.{_+_, _≤_};
 ghost use lib.Dec.{ltb};
 ghost use lib.ListN.{getD, set};
-ghost use Rattle.link.specs.Names.{timers};
+ghost use Rattle.link.specs.Names.{START, timers};
 ghost use Rattle.link.specs.Tests.{pick};
 ghost use Rattle.link.specs.Acts.{pushed};
 ghost use Rattle.link.specs.Step.{performed, begun, added, stopped};
@@ -61,7 +61,7 @@ fn put_state(a: [u8; 5], m: u8, v: u8) -> [u8; 5]
 }
 
 fn push_timer(a: Acts, base: u8, t: u8) -> Acts
-    requires { ⌜ base ≤ 32 ⌝ }
+    requires { ⌜ base ≤ START ⌝ }
     ensures { λ r. ⌜ r ≡ pick (ltb t timers) (pushed a (base + t)) a ⌝ }
 {
     if t < NO_TIMER { push(a, base + t) } else { a }

@@ -11,7 +11,7 @@ use lib.Dec.{eqb}
 use lib.ListN.{length, getD, take, drop, set, length-drop, drop-of-length-le}
 use lib.Seq.{drop-drop}
 use Rattle.text.specs.Text.{pick, wordEnd}
-use Rattle.text.specs.Numbers.{numberFrom, numberOf, noStep, steppedOf, stepOf, noNine, nineFrom}
+use Rattle.text.specs.Numbers.{numberFrom, numberOf, noStep, steppedOf, stepOf}
 use Rattle.text.specs.declared.digits.Number.{Number}
 use Rattle.text.specs.declared.digits.Number.the-variants.{Value, Unread}
 use Rattle.text.specs.declared.digits.Stepped.{Stepped}
@@ -94,37 +94,3 @@ step-used (c ∷ cs) = go (eqb c 32) (numberOf (take (wordEnd cs) cs)) (word-wit
     go true (Value v) h = omega arith
     go true Unread h = omega arith
     go false n h = omega arith
-
-module _ (k i : ℕ) (list s : List ℕ) (at : ℕ) (r : Stepped) (e : r ≡ stepOf (take (length s - at) (drop at s))) where
-  here : r ≡ stepOf (drop at s)
-  here = e ∙ ap stepOf (part-all s at (length s) refl)
-
-  pub nine-more : r .good ≡ true → nineFrom k (i + 1) (set list i (r .value)) (drop (at + r .used) s) ≡ nineFrom (suc k) i list (drop at s)
-  unfolding nineFrom
-  nine-more g = rw (← here, g, drop-drop (r .used) at s)
-
-  pub nine-stop : r .good ≡ false → noNine ≡ nineFrom (suc k) i list (drop at s)
-  unfolding nineFrom
-  nine-stop g = rw (← here, g)
-
-  pub nine-within : at ≤ length s → at + r .used ≤ length s
-  nine-within h =
-      let u : stepOf (drop at s) .used ≤ length (drop at s) = step-used (drop at s) in
-      rw here (omega (arith, u, length-drop at s))
-
-end-test : (at : ℕ) (s : List ℕ) → at ≤ length s → eqb at (length s) ≡ eqb (length (drop at s)) 0
-end-test at s h =
-    ⊎-elim
-    (λ (e : at ≡ length s).
-    let z : length (drop at s) ≡ 0 = rw (length-drop at s) (omega arith) in
-    rw (eq-eqb _ _ e, eq-eqb _ _ z))
-    (λ (l : at < length s).
-    let n : (at ≡ length s → ⊥) = λ e. omega arith in
-    let z : (length (drop at s) ≡ 0 → ⊥) = λ e. omega (arith, length-drop at s) in
-    rw (ne-eqb _ _ n, ne-eqb _ _ z))
-    (eq-or-lt-of-le h)
-
-pub nine-end : (k i : ℕ) (list s : List ℕ) (at : ℕ) → k ≡ 0 → at ≤ length s → nineFrom k i list (drop at s) ≡ record { good = eqb at (length s); list = list }
-unfolding nineFrom
-nine-end zero i list s at z h = λ j. record { good = sym (end-test at s h) j; list = list }
-nine-end (suc k) i list s at z h = absurd (omega arith)

@@ -3,12 +3,11 @@ use mathlib.Core.Bool.{true, false}
 use mathlib.Core.List.{List, [], _∷_}
 use Prim.Native.Nat.{ℕ, zero, suc, _+_, _-_, _*_}
 use lib.Dec.{eqb, leb}
-use lib.ListN.{length, take, drop, set, replicate}
+use lib.ListN.{take}
 use Rattle.text.specs.Text.{pick, both, wordEnd}
 use Rattle.text.specs.declared.digits.Number.{Number}
 use Rattle.text.specs.declared.digits.Number.the-variants.{Value, Unread}
 use Rattle.text.specs.declared.digits.Stepped.{Stepped}
-use Rattle.text.specs.declared.digits.Nine.{Nine}
 
 -- digits read from the left onto the number v; refused as soon as it does not fit 32 bits
 abbrev pub numberFrom : ℕ → List ℕ → Number
@@ -33,16 +32,3 @@ steppedOf Unread n = noStep
 unfoldable pub stepOf : List ℕ → Stepped
 stepOf [] = noStep
 stepOf (c ∷ cs) = pick (eqb c 32) (steppedOf (numberOf (take (wordEnd cs) cs)) (wordEnd cs + 1)) noStep
-
-abbrev pub noNine : Nine
-noNine = record { good = false; list = replicate 9 0 }
-
--- k numbers more, from the i-th of the list on, and then the end
-unfoldable pub nineFrom : ℕ → ℕ → List ℕ → List ℕ → Nine
-nineFrom zero i list s = record { good = eqb (length s) 0; list = list }
-nineFrom (suc k) i list s =
-    pick (stepOf s .good) (nineFrom k (i + 1) (set list i (stepOf s .value)) (drop (stepOf s .used) s)) noNine
-
--- nine numbers, each after one space, and then the end
-unfoldable pub nineOf : List ℕ → Nine
-nineOf s = nineFrom 9 0 (replicate 9 0) s

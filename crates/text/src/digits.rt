@@ -1,7 +1,7 @@
 // Whole numbers as text, one or nine of them.
 use crate::word_end;
 ghost use mathlib.Core.Path.{_≡_};
-ghost use Rattle.text.specs.Numbers.{numberFrom, numberOf, steppedOf, stepOf, nineOf};
+ghost use Rattle.text.specs.Numbers.{numberFrom, numberOf, steppedOf, stepOf};
 
 // What reading a whole number finds.
 pub enum Number {
@@ -50,10 +50,10 @@ pub fn parse_number(s: &[u8]) -> Number
 }
 
 // What `number_step` found: the number, and how many octets it took.
-struct Stepped {
-    good: bool,
-    value: u32,
-    used: usize,
+pub struct Stepped {
+    pub good: bool,
+    pub value: u32,
+    pub used: usize,
 }
 
 fn step_with(n: Number, used: usize) -> Stepped
@@ -74,7 +74,7 @@ fn step_with(n: Number, used: usize) -> Stepped
 }
 
 // A space and a whole number, up to the next space or the end.
-fn number_step(s: &[u8]) -> Stepped
+pub fn number_step(s: &[u8]) -> Stepped
     ensures { λ r. ⌜ r ≡ stepOf (now (s .entry)) ⌝ }
 {
     if s.len() == 0 {
@@ -95,35 +95,4 @@ fn number_step(s: &[u8]) -> Stepped
     let end = e + 1;
     let n = parse_number(&s[1..end]);
     step_with(n, end)
-}
-
-// Nine numbers; zeros beside `good: false`.
-pub struct Nine {
-    pub good: bool,
-    pub list: [u32; 9],
-}
-
-// Nine whole numbers, each after one space, and then the end.
-pub fn parse_nine(s: &[u8]) -> Nine
-    ensures { λ r. ⌜ r ≡ nineOf (now (s .entry)) ⌝ }
-{
-    let mut list = [0u32; 9];
-    let mut at = 0;
-    let mut i = 0;
-    while i < 9 {
-        let n = number_step(&s[at..]);
-        if !n.good {
-            return Nine {
-                good: false,
-                list: [0; 9],
-            };
-        }
-        list[i] = n.value;
-        at += n.used;
-        i += 1;
-    }
-    Nine {
-        good: at == s.len(),
-        list,
-    }
 }

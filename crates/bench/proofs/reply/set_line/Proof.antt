@@ -15,8 +15,8 @@ use borrow.Author.Needs.{needs}
 use Rattle.bench.proofs.reply.set_line.Statement.{statement}
 use Rattle.bench.proofs.reply.set_line.Tie as tie
 
-parse-nine-requires : tie.Need-parse-nine-requires
-parse-nine-requires c κs = search needs
+parse-settings-requires : tie.Need-parse-settings-requires
+parse-settings-requires c κs = search needs
 
 refuse-line-requires : tie.Need-refuse-line-requires
 refuse-line-requires c κs = search needs
@@ -26,7 +26,7 @@ same-length c = search needs
 
 returns : tie.Need-returns
 unfolding setReply openReply
-returns c = rw (← c .before .before .before .before .before .parse-nine .ensures, not-true (c .before .before .before .before .before .parse-nine .result .good) (c .before .before .before .before .if1 .taken)) (c .before .before .refuse-line .ensures)
+returns c = rw (← c .before .before .before .before .before .parse-settings .ensures, not-true (c .before .before .before .before .before .parse-settings .result .good) (c .before .before .before .before .if1 .taken)) (c .before .before .refuse-line .ensures)
 
 open-requires : tie.Need-open-requires
 open-requires c κs = search needs
@@ -39,7 +39,7 @@ same-length-2 c = search needs
 
 returns-2 : tie.Need-returns-2
 unfolding setReply openReply
-returns-2 c = rw (← c .before .before .before .before .before .before .before .before .parse-nine .ensures, not-false (c .before .before .before .before .before .before .before .before .parse-nine .result .good) (c .before .before .before .before .before .before .before .if1 .left), ← c .before .before .before .before .before .«open» .ensures, ne-eqb _ 0 (c .before .before .before .before .if2 .taken)) (c .before .before .refuse-line2 .ensures)
+returns-2 c = rw (← c .before .before .before .before .before .before .before .before .parse-settings .ensures, not-false (c .before .before .before .before .before .before .before .before .parse-settings .result .good) (c .before .before .before .before .before .before .before .if1 .left), ← c .before .before .before .before .before .«open» .ensures, ne-eqb _ 0 (c .before .before .before .before .if2 .taken)) (c .before .before .refuse-line2 .ensures)
 
 slice-aggregate-put-text : tie.Need-slice-aggregate-put-text
 slice-aggregate-put-text c = search needs
@@ -52,13 +52,13 @@ same-length-3 c = search needs
 
 returns-3 : tie.Need-returns-3
 unfolding setReply openReply
-returns-3 c = rw (← c .before .before .before .before .before .before .before .before .before .before .parse-nine .ensures, not-false (c .before .before .before .before .before .before .before .before .before .before .parse-nine .result .good) (c .before .before .before .before .before .before .before .before .before .if1 .left), ← c .before .before .before .before .before .before .before .«open» .ensures, eq-eqb _ 0 (c .before .before .before .before .before .before .if2 .left)) (record { bench-is = refl; text-is = c .before .before .put-text .ensures; short = lit≤ tt })
+returns-3 c = rw (← c .before .before .before .before .before .before .before .before .before .before .parse-settings .ensures, not-false (c .before .before .before .before .before .before .before .before .before .before .parse-settings .result .good) (c .before .before .before .before .before .before .before .before .before .if1 .left), ← c .before .before .before .before .before .before .before .«open» .ensures, eq-eqb _ 0 (c .before .before .before .before .before .before .if2 .left)) (record { bench-is = refl; text-is = c .before .before .put-text .ensures; short = lit≤ tt })
 
 pub set-line-spec : {M : Type 1} → statement M
 set-line-spec =
     tie.close
     (tie.spec
-    parse-nine-requires
+    parse-settings-requires
     refuse-line-requires
     same-length
     returns

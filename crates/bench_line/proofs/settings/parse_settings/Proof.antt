@@ -1,23 +1,24 @@
 use native.Mathlib.Omega.{arith}
 use mathlib.Core.Path.{subst}
 use borrow.Author.Tests.{not-true, not-false}
-use Rattle.text.specs.Numbers.{nineFrom, nineOf}
-use Rattle.text.proofs.Counting.{nine-more, nine-stop, nine-within, nine-end}
+use Rattle.bench_line.specs.Settings.{settingsFrom, settingsIn}
+use Rattle.link.specs.Names.{timers}
+use Rattle.bench_line.proofs.SettingsLaws.{settings-more, settings-stop, settings-within, settings-end}
 use lib.ListN.{length, drop}
 use Prim.Native.Nat.{ℕ, suc, _+_, _-_, _≤_}
 use mathlib.Core.Path.{_≡_, refl, sym, _∙_}
 use borrow.Author.Needs.{needs}
-use Rattle.text.proofs.digits.parse_nine.Statement.{statement}
-use Rattle.text.proofs.digits.parse_nine.Tie as tie
+use Rattle.bench_line.proofs.settings.parse_settings.Statement.{statement}
+use Rattle.bench_line.proofs.settings.parse_settings.Tie as tie
 
 abbrev Inv-loop : tie.InvT-loop
-Inv-loop s list₀ at₀ i₀ list at i = (i ≤ 9) × (at ≤ length s) × (nineFrom (9 - i) i list (drop at s) ≡ nineOf s)
+Inv-loop s list₀ at₀ i₀ list at i = (i ≤ timers) × (at ≤ length s) × (settingsFrom (timers - i) i list (drop at s) ≡ settingsIn s)
 
 abbrev μ-loop : tie.MeasureT-loop
-μ-loop s list₀ at₀ i₀ list at i = 9 - i
+μ-loop s list₀ at₀ i₀ list at i = timers - i
 
 loop-holds : tie.Need-loop-holds Inv-loop μ-loop
-unfolding nineOf
+unfolding settingsIn
 loop-holds c = (omega arith, omega arith, refl)
 
 sub-number-step : tie.Need-sub-number-step Inv-loop μ-loop
@@ -37,8 +38,8 @@ returns c =
     let k = c .before .before .before .before .before in
     let s = c .before .before .before .before .before .before .before .args .s .now in
     let r = c .before .before .number-step in
-    let q : 9 - k .loop .i ≡ suc (9 - (k .loop .i + 1)) = omega arith in
-    nine-stop (9 - (k .loop .i + 1)) (k .loop .i) (k .loop .list) s (k .loop .at) (r .result) (r .ensures) (not-true _ (c .if1 .taken)) ∙ subst (λ (z : ℕ). nineFrom z (k .loop .i) (k .loop .list) (drop (k .loop .at) s) ≡ nineOf s) q (k .loop .inv .2)
+    let q : timers - k .loop .i ≡ suc (timers - (k .loop .i + 1)) = omega arith in
+    settings-stop (timers - (k .loop .i + 1)) (k .loop .i) (k .loop .list) s (k .loop .at) (r .result) (r .ensures) (not-true _ (c .if1 .taken)) ∙ subst (λ (z : ℕ). settingsFrom z (k .loop .i) (k .loop .list) (drop (k .loop .at) s) ≡ settingsIn s) q (k .loop .inv .2)
 
 mul-list : tie.Need-mul-list Inv-loop μ-loop
 mul-list c = search needs
@@ -51,8 +52,8 @@ add-at c =
     let k = c .before .before .before .before .before .before in
     let s = c .before .before .before .before .before .before .before .before .args .s .now in
     let r = c .before .before .before .number-step in
-    let q : 9 - k .loop .i ≡ suc (9 - (k .loop .i + 1)) = omega arith in
-    omega (arith, nine-within (9 - (k .loop .i + 1)) (k .loop .i) (k .loop .list) s (k .loop .at) (r .result) (r .ensures) (k .loop .inv .1))
+    let q : timers - k .loop .i ≡ suc (timers - (k .loop .i + 1)) = omega arith in
+    omega (arith, settings-within (timers - (k .loop .i + 1)) (k .loop .i) (k .loop .list) s (k .loop .at) (r .result) (r .ensures) (k .loop .inv .1))
 
 add-i : tie.Need-add-i Inv-loop μ-loop
 add-i c = search needs
@@ -65,17 +66,17 @@ loop-again c =
     let k = c .before .before .before .before .before .before in
     let s = c .before .before .before .before .before .before .before .before .args .s .now in
     let r = c .before .before .before .number-step in
-    let q : 9 - k .loop .i ≡ suc (9 - (k .loop .i + 1)) = omega arith in
-    (omega arith, nine-within (9 - (k .loop .i + 1)) (k .loop .i) (k .loop .list) s (k .loop .at) (r .result) (r .ensures) (k .loop .inv .1), nine-more (9 - (k .loop .i + 1)) (k .loop .i) (k .loop .list) s (k .loop .at) (r .result) (r .ensures) (not-false _ (c .before .if1 .left)) ∙ subst (λ (z : ℕ). nineFrom z (k .loop .i) (k .loop .list) (drop (k .loop .at) s) ≡ nineOf s) q (k .loop .inv .2))
+    let q : timers - k .loop .i ≡ suc (timers - (k .loop .i + 1)) = omega arith in
+    (omega arith, settings-within (timers - (k .loop .i + 1)) (k .loop .i) (k .loop .list) s (k .loop .at) (r .result) (r .ensures) (k .loop .inv .1), settings-more (timers - (k .loop .i + 1)) (k .loop .i) (k .loop .list) s (k .loop .at) (r .result) (r .ensures) (not-false _ (c .before .if1 .left)) ∙ subst (λ (z : ℕ). settingsFrom z (k .loop .i) (k .loop .list) (drop (k .loop .at) s) ≡ settingsIn s) q (k .loop .inv .2))
 
 returns-2 : tie.Need-returns-2 Inv-loop μ-loop
 returns-2 c =
     let k = c .before in
     let s = c .before .before .before .args .s .now in
-    sym (nine-end (9 - k .loop .i) (k .loop .i) (k .loop .list) s (k .loop .at) (omega arith) (k .loop .inv .1)) ∙ k .loop .inv .2
+    sym (settings-end (timers - k .loop .i) (k .loop .i) (k .loop .list) s (k .loop .at) (omega arith) (k .loop .inv .1)) ∙ k .loop .inv .2
 
-pub parse-nine-spec : {M : Type 1} → statement M
-parse-nine-spec =
+pub parse-settings-spec : {M : Type 1} → statement M
+parse-settings-spec =
     tie.close
     (tie.spec
     Inv-loop
