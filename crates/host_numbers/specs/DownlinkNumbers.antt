@@ -1,6 +1,6 @@
 -- An aircraft PDU as 25 numbers, its list's octets beside them: 0 its kind, the index of 01's table; 1 whether a positive ack goes with a report, the request
 -- type, the index of a noncompliance or the reason of an abort; 2 the event type or the reason of a negative ack; 3 how many entries the list has;
--- 4 to 24 a report, as flatfix has it. What a kind has not is 0.
+-- 4 to 24 a report, as `ReportNumbers` has it. What a kind has not is 0.
 use mathlib.Core.Bool.{cond}
 use mathlib.Core.List.{List, [], _∷_}
 use Prim.Native.Nat.{ℕ}
