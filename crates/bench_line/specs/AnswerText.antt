@@ -10,6 +10,7 @@ use Rattle.text.specs.Page.{Page, Writes}
 use Rattle.text.specs.Words.{wordAt, refusedText}
 use Rattle.ground_answer.specs.Answers.{START-REQUEST, DATA-REQUEST, END-REQUEST, ABORT-REQUEST, ABORT-IND, PEER-ABORT-IND, LATE}
 use Rattle.ground_answer.specs.declared.answer.Said.{Said}
+use Rattle.link.specs.Names.{IND, STOP, START}
 
 -- a space and HEX, or nothing where there are no octets
 unfoldable pub spaced : List ℕ → List ℕ
@@ -24,7 +25,7 @@ unfoldable pub timerText : ℕ → List ℕ
 timerText t = wordAt timerNames t
 
 unfoldable pub timerEntry : ℕ → List ℕ
-timerEntry c = pick (ltb c 16) [] (pick (ltb c 32) (ascii " stop " ++ timerText (c - 16)) (ascii " start " ++ timerText (c - 32)))
+timerEntry c = pick (ltb c STOP) [] (pick (ltb c START) (ascii " stop " ++ timerText (c - STOP)) (ascii " start " ++ timerText (c - START)))
 
 -- one entry: the octets that go, the reason that is shown, the octets that came
 unfoldable pub entryText : ℕ → List ℕ → ℕ → List ℕ → List ℕ
@@ -33,7 +34,7 @@ entryText c sent reason came =
     (pick (eqb c DATA-REQUEST) (ascii " data-req" ++ spaced sent)
     (pick (eqb c END-REQUEST) (ascii " end-req" ++ spaced sent)
     (pick (eqb c ABORT-REQUEST) (ascii " abort-req" ++ spaced sent)
-    (pick (eqb c 5) (ascii " ind" ++ spaced came)
+    (pick (eqb c IND) (ascii " ind" ++ spaced came)
     (pick (eqb c ABORT-IND) (ascii " ind abort " ++ decimal reason)
     (pick (eqb c PEER-ABORT-IND) (ascii " ind peer-abort") (pick (eqb c LATE) (ascii " late") (timerEntry c))))))))
 

@@ -24,6 +24,7 @@ use Rattle.ground_answer.specs.Aborts.{aborted}
 use Rattle.ground_answer.specs.declared.answer.Answer.{Answer}
 use Rattle.refusals.specs.Refusals.{CANNOT-OCCUR}
 use Rattle.ground_answer.specs.Reasons.{INVALID-PDU, SEQUENCE-ERROR}
+use Rattle.link.specs.Names.{GOES}
 
 -- "cancel-emergency, stop the timer, ind, send ack": the one send that data makes. It goes before an end request
 unfoldable pub ackOf : Move → Sent
@@ -36,7 +37,7 @@ ended l s octets = pick (idle (s .at)) (tells l (performed s liEnd (loads l) END
 -- "Downlink data not listed for a state: abort 3."
 unfoldable pub passed : Link → ℕ → Answer
 passed l e =
-    pick (eqb (moveAt l LI-ACTIVE e .fate) 0) (ended l (went l LI-ACTIVE e DATA-REQUEST) (ackOf (moveAt l LI-ACTIVE e))) (aborted l SEQUENCE-ERROR)
+    pick (eqb (moveAt l LI-ACTIVE e .fate) GOES) (ended l (went l LI-ACTIVE e DATA-REQUEST) (ackOf (moveAt l LI-ACTIVE e))) (aborted l SEQUENCE-ERROR)
 
 -- "A value is taken only when the reading is good; otherwise a start confirm in START or data in ACTIVE ends in abort 2."
 unfoldable pub taken : Link → per.Answer AirPdu → Answer

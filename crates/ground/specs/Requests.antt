@@ -17,11 +17,12 @@ use Rattle.ground_answer.specs.Answers.{START-REQUEST, DATA-REQUEST, END-REQUES
 use Rattle.ground_answer.specs.Aborts.{closedWhen}
 use Rattle.ground_answer.specs.declared.answer.Answer.{Answer}
 use Rattle.refusals.specs.Refusals.{NOT-PERMITTED}
+use Rattle.link.specs.Names.{GOES}
 
 -- a module's request, with LI at li from then on: 1 where no row has it, then what its fields are refused with, else the move
 unfoldable pub asked : Link → Ground → ℕ → ℕ → Answer
 asked l g li entry =
-    pick (eqb (moveAt l li (requestEvent g) .fate) 0)
+    pick (eqb (moveAt l li (requestEvent g) .fate) GOES)
     (pick (eqb (outgoing g .refusal) 0)
     (tells l (went l li (requestEvent g) entry) 0 (outgoing g .sent))
     (refusal l (outgoing g .refusal)))

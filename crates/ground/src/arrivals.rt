@@ -19,6 +19,7 @@ use link::executor::Step;
 use link::executor::add;
 use link::executor::begin;
 use link::executor::perform;
+use link::moves::GOES;
 use link::moves::Move;
 use pdu::AirAnswer;
 use pdu::decode_air;
@@ -61,7 +62,7 @@ fn pass(l: Link, event: u8) -> Answer
     let at = first.at;
     let m = decide(at, event);
     let fate = m.fate;
-    if fate != 0 {
+    if fate != GOES {
         return abort(l, SEQUENCE_ERROR);
     }
     end(l, perform(first, m, most_of(l), DATA_REQUEST), ack_of(m))

@@ -13,6 +13,7 @@ use ground_tables::decide::li_end;
 use ground_tables::names::*;
 use link::executor::perform;
 use link::executor::stop_all;
+use link::moves::GOES;
 use pdu::uplink::Ground;
 use refusals::BAD_RECORD;
 use refusals::NOT_PERMITTED;
@@ -27,7 +28,7 @@ fn ask(l: Link, g: Ground, li: u8, entry: u8) -> Answer
     let at = first.at;
     let m = decide(at, request_event(g));
     let fate = m.fate;
-    if fate != 0 {
+    if fate != GOES {
         return refuse(l, NOT_PERMITTED);
     }
     let w = write(g);

@@ -5,12 +5,12 @@ use Prim.Native.Nat.{ℕ, _-_, _+_, _*_}
 use lib.ListN.{getD}
 use lib.Dec.{eqb, leb}
 use Rattle.link.specs.Tests.{both, pick}
-use Rattle.link.specs.Names.{no-timer, GROUP}
+use Rattle.link.specs.Names.{no-timer, GROUP, GOES, REFUSES, ABORTS}
 use Rattle.link.specs.declared.moves.Move.{Move}
 
 -- a move: to a state of a module, with at most one timer stopped, an indication, a send and one timer started, in this order
 abbrev pub go : ℕ → ℕ → ℕ → Bool → Bool → ℕ → Move
-go who to stop ind send start = record { fate = 0; stop = stop; ind = ind; send = send; start = start; who = who; to = to }
+go who to stop ind send start = record { fate = GOES; stop = stop; ind = ind; send = send; start = start; who = who; to = to }
 
 -- the words of the rows
 abbrev pub to : ℕ → ℕ → Move
@@ -33,7 +33,7 @@ abbrev pub still : ℕ → Move
 still fate = record { fate = fate; stop = no-timer; ind = false; send = false; start = no-timer; who = 0; to = 0 }
 
 abbrev pub unlisted : ℕ → Move
-unlisted event = pick (leb event 3) (still 1) (still 3)
+unlisted event = pick (leb event 3) (still REFUSES) (still ABORTS)
 
 pub record Row : Type 0 where
   pub state : ℕ

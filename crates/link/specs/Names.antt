@@ -37,3 +37,13 @@ START = 32
 -- events come in groups, one for each module
 abbrev pub GROUP : ℕ
 GROUP = 16
+
+-- what comes of an event: a move that goes, a request that is refused, data that aborts
+abbrev pub GOES : ℕ
+GOES = 0
+
+abbrev pub REFUSES : ℕ
+REFUSES = 1
+
+abbrev pub ABORTS : ℕ
+ABORTS = 3

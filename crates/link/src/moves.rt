@@ -19,7 +19,13 @@ pub const EM: u8 = 3;
 
 pub const LI: u8 = 4;
 
-// `fate` is 0 for a move that goes, 1 for a request that is refused with 1, 3 for data that is abort 3.
+// What comes of an event: a move that goes, a request that is refused, data that aborts.
+pub const GOES: u8 = 0;
+
+pub const REFUSES: u8 = 1;
+
+pub const ABORTS: u8 = 3;
+
 pub struct Move {
     pub fate: u8,
     pub stop: u8,
@@ -34,7 +40,7 @@ pub fn go(who: u8, to: u8, stop: u8, ind: bool, send: bool, start: u8) -> Move
     ensures { λ r. ⌜ r ≡ go who to stop ind send start ⌝ }
 {
     Move {
-        fate: 0,
+        fate: GOES,
         stop,
         ind,
         send,
@@ -47,7 +53,7 @@ pub fn go(who: u8, to: u8, stop: u8, ind: bool, send: bool, start: u8) -> Move
 pub fn unlisted(kind: u8) -> Move
     ensures { λ r. ⌜ r ≡ unlisted kind ⌝ }
 {
-    let fate: u8 = if kind <= 3 { 1 } else { 3 };
+    let fate: u8 = if kind <= 3 { REFUSES } else { ABORTS };
     Move {
         fate,
         stop: NO_TIMER,

@@ -5,7 +5,7 @@ use Prim.Native.Nat.{ℕ, zero, suc, _+_, _*_}
 use lib.Dec.{eqb, leb}
 use lib.ListN.{length, getD, set}
 use Rattle.link.specs.Tests.{both, either, pick, below}
-use Rattle.link.specs.Names.{timers, EM, GROUP}
+use Rattle.link.specs.Names.{timers, EM, GROUP, GOES}
 use Rattle.link.specs.Watch.{runs, stateOk}
 use Rattle.link.specs.Moves.{Row, moveIn}
 use Rattle.link.specs.Step.{restAt}
@@ -93,7 +93,7 @@ balanced b at m =
 
 -- a move that goes is balanced, and what else the side asks
 unfoldable pub fits : Tables → List ℕ → ℕ → Move → Bool
-fits b at e m = pick (eqb (m .fate) 0) (both (balanced b at m) (b .also at e m)) true
+fits b at e m = pick (eqb (m .fate) GOES) (both (balanced b at m) (b .also at e m)) true
 
 -- a test at each states
 abbrev pub vectors : List ℕ → (List ℕ → Bool) → Bool
