@@ -3,7 +3,11 @@ use Prim.Native.Nat.{ℕ}
 use mathlib.Core.Bool.{false}
 use mathlib.Core.List.{List, [], _∷_}
 use lib.IntN.{pos}
-use Rattle.per.specs.Pdu.{Answer, got, refused, encode, readPdu}
+use lib.ListN.{length, replicate}
+use Rattle.per.specs.Pdu.{Answer, got, refused, readPdu}
+use Rattle.per.specs.Writing.{Delivered, writePdu}
+use Rattle.per.specs.declared.pen.Written.{Written}
+use Rattle.per.specs.declared.pen.Written.the-variants.{Octets, Refused}
 use Rattle.pdu_parts.specs.declared.position.Angle.{Angle}
 use Rattle.pdu_parts.specs.declared.report.Report.{Report}
 use Rattle.pdu_parts.specs.declared.interval.Interval.the-variants.{Minutes}
@@ -66,11 +70,19 @@ unfoldable pub reread : Example → Example
 reread (down s a) = down s (readPdu airC s)
 reread (up s a) = up s (readPdu groundC s)
 
--- each example as the codecs write its value
+-- the octets of a write that is accepted
+abbrev pub ifWritten : Written → List ℕ → List ℕ
+ifWritten (Octets n) o = o
+ifWritten (Refused n) o = []
+
+abbrev pub accepted : Delivered → List ℕ
+accepted d = ifWritten (d .answer) (d .octets)
+
+-- each example as the codecs write its value, into an output that is just long enough
 unfoldable pub rewritten : Example → Example
-rewritten (down s (got a)) = down (encode airC a) (got a)
+rewritten (down s (got a)) = down (accepted (writePdu airC a (replicate (length s) 255))) (got a)
 rewritten (down s (refused n)) = down s (refused n)
-rewritten (up s (got g)) = up (encode groundC g) (got g)
+rewritten (up s (got g)) = up (accepted (writePdu groundC g (replicate (length s) 255))) (got g)
 rewritten (up s (refused n)) = up s (refused n)
 
 unfoldable pub all : (Example → Example) → List Example → List Example
