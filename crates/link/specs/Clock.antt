@@ -19,7 +19,7 @@ notDue n left t = not (due n (getD left t 0))
 unfoldable pub later : ℕ → List ℕ → List ℕ
 later n left = map (λ x. x - n) left
 
--- "Stop entries for all running timers, an expired one too, in watch order": those of the timers below t, 16 and the timer's number each
+-- "Stop entries for all running timers, an expired one too, in watch order": those of the timers below t
 unfoldable pub stopsOf : ℕ → List ℕ → List ℕ
 stopsOf zero left = []
 stopsOf (suc t) left = stopsOf t left ++ one (leb 1 (getD left t 0)) (STOP + t)

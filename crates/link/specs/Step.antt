@@ -9,7 +9,7 @@ use Rattle.link.specs.declared.moves.Move.{Move}
 use Rattle.link.specs.Names.{timers, IND, STOP, START}
 use Rattle.link.specs.declared.executor.Step.{Step}
 
--- stop (16 and the timer), indication (5), send, start (32 and the timer)
+-- stop, indication, send, start: what is there of them, in this order
 unfoldable pub actsOf : Move → ℕ → List ℕ
 actsOf m send =
     one (ltb (m .stop) timers) (STOP + m .stop) ++ one (m .ind) IND ++ one (m .send) send ++ one (ltb (m .start) timers) (START + m .start)
