@@ -49,7 +49,7 @@ def picture(wings, names):
         for c in crates:
             ranks.setdefault(level(c), []).append(c)
         chain = " > ".join("  ".join(ranks[k]) for k in sorted(ranks, reverse=True))
-        rows.append("%-14s%-76s%s" % (wing, chain, "on " + ", ".join(on) if on else ""))
+        rows.append("%-24s%-60s%s" % (wing, chain, "on " + ", ".join(on) if on else ""))
         done.append(wing)
         del waiting[wing]
     return "\n".join(row.rstrip() for row in reversed(rows))
