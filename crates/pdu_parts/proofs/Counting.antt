@@ -5,12 +5,12 @@ use mathlib.Core.Bool.{Bool, true, false}
 use mathlib.Core.List.{List, [], _∷_, _++_}
 use native.Mathlib.Nat.{pow-suc}
 use native.Mathlib.Omega.{arith}
-use lib.Count.{ones, ones-step, ones-le}
+use lib.Count.{ones, ones-step}
 use Rattle.per.specs.Bits.{ofBit, toBit, toBits}
 use Rattle.per.specs.laws.Bits.{of-to}
 use Rattle.pdu_parts.specs.Ones.{trues, onesOf, periodicCount}
 use Rattle.pdu_parts.specs.declared.periodic.Periodic.{Periodic}
-use Rattle.pdu_parts.specs.Interval.{isFive}
+use Rattle.pdu_parts.specs.Interval.{isFive, sentBits}
 
 trues-snoc : (bs : List Bool) (b : Bool) → trues (bs ++ (b ∷ [])) ≡ trues bs + ofBit b
 unfolding trues
@@ -29,13 +29,11 @@ pub count-is : (v : ℕ) → v < 2 ^ 32 → ones v ≡ onesOf v
 unfolding onesOf
 count-is v h = ones-bits 32 v h
 
-pub count-few : (v : ℕ) → v < 2 ^ 32 → ones v ≤ 32
-count-few v h = ones-le 32 v h
+-- the presence bits that `write_periodic` sends are those that are counted
+pub counts-sent : (a : Periodic) → a .elements ≤ 127 → periodicCount a ≡ onesOf (sentBits (isFive (a .interval)) (a .elements))
+unfolding periodicCount
+counts-sent a h = ap (λ (n : ℕ). onesOf (sentBits (isFive (a .interval)) n)) (omega arith)
 
-pub count-five : (a : Periodic) (b : Bool) → b ≡ isFive (a .interval) → b ≡ true → a .elements < 2 ^ 32 → ones (a .elements) ≡ periodicCount a
-unfolding periodicCount ofBit
-count-five a b e t h = rw (← e, t) (count-is (a .elements) h ∙ omega arith)
-
-pub count-other : (a : Periodic) (b : Bool) → b ≡ isFive (a .interval) → b ≡ false → a .elements < 2 ^ 32 → ones (a .elements) + 1 ≡ periodicCount a
-unfolding periodicCount ofBit
-count-other a b e t h = rw (← e, t) (ap (λ (n : ℕ). n + 1) (count-is (a .elements) h))
+pub count-periodic : (a : Periodic) (v : ℕ) (five : Bool) → five ≡ isFive (a .interval) → v ≡ sentBits five (a .elements % 128) → v < 2 ^ 32 → ones v ≡ periodicCount a
+unfolding periodicCount
+count-periodic a v five f e h = count-is v h ∙ ap onesOf (e ∙ ap (λ (b : Bool). sentBits b (a .elements % 128)) f)

@@ -83,11 +83,11 @@ pub fn write_periodic(p: Pen, out: &mut [u8; 128], a: Periodic) -> Pen
     p.num_if(out, present(v, WEATHER), a.weather, 1, 255)
 }
 
-// How many elements it asks for, the interval where it is sent.
+// How many elements it asks for: the ones of the presence bits that are sent.
 pub fn count_periodic(a: Periodic) -> u32
     ensures { λ r. ⌜ r ≡ periodicCount a ⌝ }
 {
     let interval = a.interval;
-    let n = u32::count_ones(a.elements);
-    if is_five(interval) { n } else { n + 1 }
+    let five = is_five(interval);
+    u32::count_ones(bits_of(five, a.elements % INTERVAL))
 }
