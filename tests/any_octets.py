@@ -4,6 +4,8 @@ import re
 import subprocess
 import sys
 
+import broken_input
+
 ANSWERS = {"coder": rb"(ok( [0-9a-f]+)?|refused [0-9]+)\Z", "pdutext": rb"((air|ground): [ -~]+|refused [0-9]+ \([ -~]+\))\Z"}
 ANSWER = re.compile(ANSWERS[sys.argv[-1]])
 
@@ -18,6 +20,16 @@ def check(name, data):
     answers = run.stdout.split(b"\n")
     good = run.returncode == 0 and answers[-1] == b"" and len(answers) - 1 == lines_of(data) and all(map(ANSWER.match, answers[:-1]))
     print(f"{name}: {len(data)} octets, {len(answers) - 1} answers{'' if good else ': WRONG'}")
+    return good
+
+
+def broken():
+    """A read that fails is no end of the input: what came of a line is not answered, and standard error says so."""
+    ran = broken_input.run(sys.argv[1:], b"air 00\nair 4")
+    good = ran.stdout.count(b"\n") == 1 and ran.stdout.endswith(b"\n") and ran.stderr == broken_input.TOLD
+    first = broken_input.run_directory(sys.argv[1:])
+    good = good and first.stdout == b"" and first.stderr == broken_input.TOLD
+    print(f"input that cannot be read: {'said' if good else 'WRONG'}")
     return good
 
 
@@ -37,7 +49,7 @@ def main():
         "random octets": rng.randbytes(4000000),
         "many lines": b"ground 74\nair 4200\n" * 200000,
     }
-    return all([check(name, data) for name, data in cases.items()])
+    return all([*(check(name, data) for name, data in cases.items()), broken()])
 
 
 sys.exit(0 if main() else 1)

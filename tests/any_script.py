@@ -3,6 +3,7 @@ import random
 import subprocess
 import sys
 
+import broken_input
 import linkmodel
 
 SET = b"set 60 60 60 60 60 60 60 60 60\n"
@@ -43,6 +44,18 @@ def full():
     return True
 
 
+def broken():
+    """A read that fails is no end of the script: its last line is missing, what came of a line is not played, and standard error says so."""
+    data = SET + b"req 3000\nelapse 5"
+    ran = broken_input.run(sys.argv[1:], data)
+    whole = linkmodel.trace(data[:data.rindex(b"\n") + 1])
+    good = ran.stdout == whole[:whole.rindex(b"end ")] and ran.stderr == broken_input.TOLD
+    first = broken_input.run_directory(sys.argv[1:])
+    good = good and first.stdout == b"adsc trace 1\n" and first.stderr == broken_input.TOLD
+    print(f"input that cannot be read: {'said' if good else 'WRONG'}")
+    return good
+
+
 def main():
     rng = random.Random()
     seed = rng.randrange(2**32)
@@ -63,6 +76,7 @@ def main():
     good.append(counted("a million lines", SET + b"elapse 0\n" * 999999, 1000000))
     good.append(counted("one long line", b"a" * 20000000, 1))
     good.append(full())
+    good.append(broken())
     return all(good)
 
 

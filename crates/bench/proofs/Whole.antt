@@ -1,6 +1,6 @@
 -- What the trace of a script is, seen by pieces and by lines that are kept in part. Over the definitions alone. Assumes nothing.
 use mathlib.Core.Path.{_≡_, refl, ap, _∙_}
-use mathlib.Core.Bool.{true}
+use mathlib.Core.Bool.{true, false}
 use mathlib.Core.List.{List, [], _∷_, _++_}
 use mathlib.Core.Logic.{⊎-elim}
 use Prim.Native.Nat.{ℕ, _≤_, _<_}
@@ -10,10 +10,12 @@ use lib.ListN.{length, take, length-take}
 use lib.Seq.{take-all}
 use Rattle.text.proofs.Laws.{le-or-lt}
 use Rattle.text_lines.specs.Lines.{linesOf}
-use Rattle.text_lines.specs.Pulls.{left}
-use Rattle.text_lines.proofs.Pieces.{fronts, Pulled-all, lines-pieces}
-use Rattle.bench.specs.Replies.{lineReply}
+use Rattle.text_lines.specs.Pulls.{left, Pulled-all}
+use Rattle.text_lines.proofs.Pieces.{fronts, lines-pieces}
+use Rattle.bench.specs.Replies.{Reply, lineReply}
 use Rattle.bench.specs.declared.reply.Setup.{Setup}
+use Rattle.bench.specs.declared.player.Played.{Played}
+use Rattle.bench.specs.Playing.{countedOn, boxOn, Plays}
 use Rattle.bench.specs.Trace.{begun, bumped, numbered, answersFrom, traceOf}
 
 reply-cut : (b : Setup) (l : List ℕ) → lineReply b (take 4097 l) ≡ lineReply b l
@@ -43,3 +45,20 @@ unfolding traceOf
 trace-pieces {script} {ls} d =
     ap (λ (r : List ℕ). begun .text ++ r)
     (ap (λ (k : List (List ℕ)). answersFrom 0 (begun .setup) k) (lines-pieces (omega arith) d) ∙ says-whole-lines 0 (begun .setup) (linesOf script))
+
+on-whole-lines : (n : ℕ) (b : Setup) (ls : List (List ℕ)) → (countedOn n (fronts 4097 ls) ≡ countedOn n ls) × (boxOn n b (fronts 4097 ls) ≡ boxOn n b ls)
+on-whole-lines n b [] = (refl, refl)
+on-whole-lines n b (l ∷ ls) =
+    let m = bumped n in
+    let after = numbered m b l .setup in
+    let more = on-whole-lines m after ls in
+    (more .0, ap (λ (s : Setup). boxOn m s (fronts 4097 ls)) (ap (λ (r : Reply). r .setup) (says-whole-line m b l)) ∙ more .1)
+
+-- "end N" counts the lines of the whole script, unless a read failed, and the box has answered each of them
+pub end-counts : {r : Played} (p : Plays 4097 (left true []) 0 (begun .setup) r) (well : r .failed ≡ false)
+    → (r .trace .number ≡ countedOn 0 (linesOf (p .all-came well .text))) × (r .trace .setup ≡ boxOn 0 (begun .setup) (linesOf (p .all-came well .text)))
+end-counts p well =
+    let c = p .all-came well in
+    let all = lines-pieces (omega arith) (c .pulled) in
+    let whole = on-whole-lines 0 (begun .setup) (linesOf (c .text)) in
+    (p .number-is ∙ ap (countedOn 0) all ∙ whole .0, p .setup-is ∙ ap (boxOn 0 (begun .setup)) all ∙ whole .1)

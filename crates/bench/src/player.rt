@@ -6,11 +6,16 @@ use crate::trace::put_end;
 use text_lines::input::pull_line;
 use text_lines::input::shown;
 use text_lines::input::start;
+use text_lines::input::tell_failed;
 use text_lines::input::write_out;
 ghost use mathlib.Core.Path.{_≡_};
+ghost use mathlib.Core.Bool.{true};
+ghost use mathlib.Core.List.{[]};
 ghost use Prim.Native.Nat.{_+_, _≤_};
 ghost use lib.ListN.{length};
+ghost use Rattle.text_lines.specs.Pulls.{left};
 ghost use Rattle.bench.specs.Trace.{bumped, numbered, Stands};
+ghost use Rattle.bench.specs.Playing.{Plays};
 
 // Twice what a full page has: room for the answer to any line.
 fn page_buffer() -> [u8; 131072]
@@ -27,9 +32,16 @@ fn add_line(t: Trace, line: &[u8], out: &mut [u8]) -> Trace
     number_line(t, line, out)
 }
 
+// The trace after the last line, and whether a read failed before the end of the input.
+pub struct Played {
+    pub trace: Trace,
+    pub failed: bool,
+}
+
 // Answers every line of the input. A proved loop has to end, so it counts down from a number that no run uses up.
-fn run(t: Trace, chunk: &mut [u8], line: &mut [u8], out: &mut [u8]) -> Trace
+fn run(t: Trace, chunk: &mut [u8], line: &mut [u8], out: &mut [u8]) -> Played
     requires { ⌜ 131072 ≤ length (now out) ⌝ }
+    ensures { λ r. ⌜ Plays (length (now (line .entry))) (left true []) (t .number) (t .setup) r ⌝ }
 {
     let mut e = t;
     let mut input = start();
@@ -39,13 +51,31 @@ fn run(t: Trace, chunk: &mut [u8], line: &mut [u8], out: &mut [u8]) -> Trace
         input = l.input;
         e.at = l.at;
         if !l.found {
-            return e;
+            return Played {
+                trace: e,
+                failed: l.failed,
+            };
         }
         let n = shown(l.len, line);
         e = add_line(e, &line[..n], out);
         turns -= 1;
     }
-    e
+    Played {
+        trace: e,
+        failed: true,
+    }
+}
+
+// The last line of the trace, which stands there only if the script was read to its end.
+fn finish(p: Played, out: &mut [u8]) {
+    let t = p.trace;
+    if p.failed {
+        write_out(t.at, out);
+        tell_failed();
+        return;
+    }
+    let at = put_end(out, t.at, t.number);
+    write_out(at, out);
 }
 
 // Plays the whole script.
@@ -54,7 +84,6 @@ pub fn play() {
     let mut line = [0u8; 4097];
     let mut out = page_buffer();
     let t = begin(&mut out);
-    let e = run(t, &mut chunk, &mut line, &mut out);
-    let at = put_end(&mut out, e.at, e.number);
-    write_out(at, &out);
+    let p = run(t, &mut chunk, &mut line, &mut out);
+    finish(p, &mut out);
 }

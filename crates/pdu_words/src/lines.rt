@@ -5,6 +5,7 @@ use text::put_byte;
 use text_lines::input::pull_line;
 use text_lines::input::shown;
 use text_lines::input::start;
+use text_lines::input::tell_failed;
 use text_lines::input::write_out;
 
 // What is said of a PDU.
@@ -22,8 +23,14 @@ fn put_answer(task: Task, out: &mut Page, at: usize, len: usize, line: &[u8]) ->
     put_byte(out, a, 10)
 }
 
-// Answers every line of the input; the place of the pen then. A proved loop has to end, so it counts down from a number that no run uses up.
-fn run(task: Task, chunk: &mut [u8; 65536], line: &mut [u8; 4097], out: &mut Page) -> usize {
+// The place of the pen after the last line, and whether a read failed before the end of the input.
+struct Done {
+    at: usize,
+    failed: bool,
+}
+
+// Answers every line of the input. A proved loop has to end, so it counts down from a number that no run uses up.
+fn run(task: Task, chunk: &mut [u8; 65536], line: &mut [u8; 4097], out: &mut Page) -> Done {
     let mut at = 0;
     let mut input = start();
     let mut turns: u64 = 18446744073709551615;
@@ -32,17 +39,23 @@ fn run(task: Task, chunk: &mut [u8; 65536], line: &mut [u8; 4097], out: &mut Pag
         input = l.input;
         at = l.at;
         if !l.found {
-            return at;
+            return Done {
+                at,
+                failed: l.failed,
+            };
         }
         at = put_answer(task, out, at, l.len, line);
         turns -= 1;
     }
-    at
+    Done { at, failed: true }
 }
 
 // What is left on the page. A lent `Page` has its length, which the array that was lent in `answer` is not known to have.
-fn finish(at: usize, out: &Page) -> bool {
-    write_out(at, out)
+fn finish(d: Done, out: &Page) {
+    write_out(d.at, out);
+    if d.failed {
+        tell_failed();
+    }
 }
 
 // Answers the whole input. 4,097 octets of a line are kept: enough to see that it is too long.
@@ -50,6 +63,6 @@ pub fn answer(task: Task) {
     let mut chunk = io::large_buffer();
     let mut line = [0u8; 4097];
     let mut out = [0u8; 131072];
-    let at = run(task, &mut chunk, &mut line, &mut out);
-    finish(at, &out);
+    let d = run(task, &mut chunk, &mut line, &mut out);
+    finish(d, &out);
 }

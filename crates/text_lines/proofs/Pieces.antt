@@ -10,17 +10,12 @@ use lib.ListN.{length, take, drop}
 use lib.Seq.{take-nil}
 use Rattle.text.specs.Text.{pick}
 use Rattle.text_lines.specs.Lines.{front, before, lastOf, linesFrom, linesOf, gathered}
-use Rattle.text_lines.specs.Pulls.{Left, left, Pulled, ends, goes-on, closes, stops}
+use Rattle.text_lines.specs.Pulls.{Left, left, Pulled, ends, goes-on, closes, stops, Pulled-all, none, one}
 
 -- the front of each line
 abbrev pub fronts : ℕ → List (List ℕ) → List (List ℕ)
 fronts most [] = []
 fronts most (l ∷ ls) = take most l ∷ fronts most ls
-
--- the lines that come one after the other until none is found, and the text that the reads bring meanwhile
-pub data Pulled-all (most : ℕ) : Left → List ℕ → List (List ℕ) → Type 0 where
-  none : {a b : Left} {t l : List ℕ} → Pulled most [] a t l false b → Pulled-all most a t []
-  one : {a b : Left} {t u l : List ℕ} {ls : List (List ℕ)} → Pulled most [] a t l true b → Pulled-all most b u ls → Pulled-all most a (t ++ u) (l ∷ ls)
 
 -- a line that ends in a piece
 ended-lines : (k p rest : List ℕ) → gathered p .ended ≡ true

@@ -50,7 +50,7 @@ module _ (l : Line) (chunk line out : List ℕ) (n : ℕ) (g : Gathered) (s : Sh
   whole = subst (λ (c : List ℕ). Gathers c (l .input .from) (page line (l .len)) g (page out (g .len))) (ap (λ (z : ℕ). take z chunk) (s .is) ∙ take-min (l .input .count) chunk) h
 
   pub piece-extends : (f : Bool) → f ≡ pick (g .ended) true (pick (l .input .«open») false (ltb 0 (g .len)))
-      → Extends l chunk line (record { input = record { from = g .next; count = l .input .count; «open» = l .input .«open» }; at = l .at; len = g .len; found = f }) out
+      → Extends l chunk line (record { input = record { from = g .next; count = l .input .count; «open» = l .input .«open» }; at = l .at; len = g .len; found = f; failed = l .failed }) out
   piece-extends f e =
       let k = kept-written (whole .kept-is) in
       let in-line = k .1 fits in
@@ -60,11 +60,16 @@ module _ (l : Line) (chunk line out : List ℕ) (n : ℕ) (g : Gathered) (s : Sh
         found-is = e ∙ ap (λ (b : Bool). pick b true (pick (l .input .«open») false (ltb 0 (g .len)))) (whole .ended-is);
         within = omega arith;
         at-is = refl;
+        failed-is = refl;
       }
 
 -- extending a line leaves its input as open as it was
 pub as-open : {l r : Line} {chunk line out : List ℕ} → Extends l chunk line r out → r .input .«open» ≡ l .input .«open»
 as-open x = ap (λ (u : Left). u .more) (x .left-is)
+
+-- what did not fail did not fail
+pub no-failure : {A : Type 0} {b : Bool} → b ≡ false → b ≡ true → A
+no-failure e f = let z : _≡_ {A = Bool} true false = sym f ∙ e in let y : _≡_ {A = ℕ} 0 1 = cc in absurd (omega arith)
 
 -- the line so far, extended by the piece
 module _ {l r : Line} {chunk line out : List ℕ} (most : ℕ) (size : length line ≡ most) (x : Extends l chunk line r out) where

@@ -1,7 +1,7 @@
 -- The next line of an input, whatever the reads bring. A contract cannot say what they do.
 use mathlib.Core.Path.{_≡_}
 use mathlib.Core.Bool.{Bool, true, false}
-use mathlib.Core.List.{List, [], _++_}
+use mathlib.Core.List.{List, [], _∷_, _++_}
 use mathlib.Core.Logic.{_⊎_}
 use Prim.Native.Nat.{ℕ, _≤_, _<_}
 use lib.Dec.{ltb}
@@ -42,14 +42,20 @@ pub data Pulled (most : ℕ) : List ℕ → Left → List ℕ → List ℕ → B
   stops : {kept p : List ℕ} → gathered p .ended ≡ false
       → Pulled most kept (left false p) [] (keptWith most kept p) (ltb 0 (length (keptWith most kept p))) (left false (drop (gathered p .used) p))
 
+-- the lines that come one after the other until none is found, and the text that the reads bring meanwhile
+pub data Pulled-all (most : ℕ) : Left → List ℕ → List (List ℕ) → Type 0 where
+  none : {a b : Left} {t l : List ℕ} → Pulled most [] a t l false b → Pulled-all most a t []
+  one : {a b : Left} {t u l : List ℕ} {ls : List (List ℕ)} → Pulled most [] a t l true b → Pulled-all most b u ls → Pulled-all most a (t ++ u) (l ∷ ls)
+
 -- with some text or other that the reads brought
 pub record Brought (most : ℕ) (kept : List ℕ) (before : Left) (line : List ℕ) (found : Bool) (after : Left) : Type 0 where
   pub text : List ℕ
   pub pulled : Pulled most kept before text line found after
 
--- what `pull_line` gives: the line in its buffer, and a page with room for its answer
+-- what `pull_line` gives: the line in its buffer, and a page with room for its answer. Where a read failed, no line
 pub record Pulls (most : ℕ) (before : Left) (r : Line) (chunk line : List ℕ) : Type 0 where
-  pub line-is : Brought most [] before (take (r .len) line) (r .found) (leftOf (r .input) chunk)
+  pub none-failed : r .failed ≡ true → r .found ≡ false
+  pub line-is : r .failed ≡ false → Brought most [] before (take (r .len) line) (r .found) (leftOf (r .input) chunk)
   pub within : r .len ≤ length line
   pub room : r .at < 65536
 
@@ -60,6 +66,7 @@ shut i = record { from = i .from; count = i .count; «open» = false }
 -- what `start_line` gives: no octets yet; the input as it was, or closed
 pub record Starts (i : Input) (r : Line) : Type 0 where
   pub empty : r .len ≡ 0
+  pub well : r .failed ≡ false
   pub input-is : (r .input ≡ i) ⊎ (r .input ≡ shut i)
   pub room : r .at < 65536
 
@@ -70,3 +77,10 @@ pub record Extends (l : Line) (chunk line : List ℕ) (r : Line) (out : List ℕ
   pub found-is : r .found ≡ pick (gathered (leftOf (l .input) chunk .piece) .ended) true (pick (l .input .«open») false (ltb 0 (r .len)))
   pub within : r .len ≤ length out
   pub at-is : r .at ≡ l .at
+  pub failed-is : r .failed ≡ l .failed
+
+-- what `refill` gives: the line so far, and an empty page. A contract cannot say what the read brings
+pub record Refills (l r : Line) : Type 0 where
+  pub len-is : r .len ≡ l .len
+  pub found-is : r .found ≡ l .found
+  pub empty : r .at ≡ 0

@@ -1,12 +1,13 @@
 // Lines from standard input, and the page on which their answers go to standard output.
 use crate::gather::gather;
+use libc::STDERR_FILENO;
 use libc::STDIN_FILENO;
 use libc::STDOUT_FILENO;
 ghost use mathlib.Core.Path.{_≡_};
 ghost use Prim.Native.Nat.{_≤_};
 ghost use lib.ListN.{length};
 ghost use Rattle.text_lines.specs.Inputs.{Shows, started};
-ghost use Rattle.text_lines.specs.Pulls.{leftOf, Starts, Extends, Pulls};
+ghost use Rattle.text_lines.specs.Pulls.{leftOf, Starts, Extends, Refills, Pulls};
 
 // A page that has got this far is written out.
 pub const FULL: usize = 65536;
@@ -18,12 +19,14 @@ pub struct Input {
     pub open: bool,
 }
 
-// `len` octets of a line are kept, if one was `found`, and the pen is at `at` on the page.
+// `len` octets of a line are kept, if one was `found`, and the pen is at `at` on the page. A read that `failed` is no end of the input: what came of a line
+// before it is no line.
 pub struct Line {
     pub input: Input,
     pub at: usize,
     pub len: usize,
     pub found: bool,
+    pub failed: bool,
 }
 
 // How many octets of a buffer stand before a place.
@@ -37,6 +40,11 @@ pub fn shown(at: usize, out: &[u8]) -> usize
 pub fn write_out(at: usize, out: &[u8]) -> bool {
     let n = shown(at, out);
     io::write_all(STDOUT_FILENO, &out[..n])
+}
+
+// Says on standard error that the input was not read to its end.
+pub fn tell_failed() {
+    io::write_all(STDERR_FILENO, b"input could not be read to its end\n");
 }
 
 // Standard input, of which nothing is read yet.
@@ -68,6 +76,7 @@ fn start_line(input: Input, at: usize, out: &[u8]) -> Line
         at,
         len: 0,
         found: false,
+        failed: false,
     };
     if at < FULL {
         return l;
@@ -96,6 +105,7 @@ fn extend(l: Line, chunk: &[u8], line: &mut [u8]) -> Line
             at: l.at,
             len,
             found: true,
+            failed: l.failed,
         };
     }
     if input.open {
@@ -104,6 +114,7 @@ fn extend(l: Line, chunk: &[u8], line: &mut [u8]) -> Line
             at: l.at,
             len,
             found: false,
+            failed: l.failed,
         };
     }
     Line {
@@ -111,23 +122,41 @@ fn extend(l: Line, chunk: &[u8], line: &mut [u8]) -> Line
         at: l.at,
         len,
         found: 0 < len,
+        failed: l.failed,
     }
 }
 
-// Another chunk. What stands on the page is written out first: nobody waits for an answer while the program waits for a line.
-fn read_chunk(at: usize, chunk: &mut [u8], out: &[u8]) -> Input {
-    if !write_out(at, out) {
-        return closed();
+// A line on an empty page, with an input.
+fn with_input(l: Line, input: Input, failed: bool) -> Line
+    ensures { λ r. ⌜ Refills l r ⌝ }
+{
+    Line {
+        input,
+        at: 0,
+        len: l.len,
+        found: l.found,
+        failed,
+    }
+}
+
+// The line so far, with another chunk. What stands on the page is written out first: nobody waits for an answer while the program waits for a line.
+fn refill(l: Line, chunk: &mut [u8], out: &[u8]) -> Line
+    ensures { λ r. ⌜ Refills l r ⌝ }
+{
+    if !write_out(l.at, out) {
+        return with_input(l, closed(), false);
     }
     let got = libc::read(STDIN_FILENO, chunk);
     if got <= 0 {
-        return closed();
+        return with_input(l, closed(), got < 0);
     }
-    Input {
+    let count = io::count(got, chunk);
+    let input = Input {
         from: 0,
-        count: io::count(got, chunk),
+        count,
         open: true,
-    }
+    };
+    with_input(l, input, false)
 }
 
 // The next line, if there is one. The input has an end, but a proved loop has to have one, so it counts down from a number that no run uses up.
@@ -144,8 +173,10 @@ pub fn pull_line(input: Input, at: usize, chunk: &mut [u8], line: &mut [u8], out
         if !l.input.open {
             return l;
         }
-        l.input = read_chunk(l.at, chunk, out);
-        l.at = 0;
+        l = refill(l, chunk, out);
+        if l.failed {
+            return l;
+        }
         turns -= 1;
     }
     l.input.open = false;

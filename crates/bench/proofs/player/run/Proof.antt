@@ -1,12 +1,19 @@
 use borrow.Author.Needs.{needs}
 use mathlib.Core.Path.{_≡_, refl, _∙_}
 use native.Mathlib.Omega.{arith}
+use mathlib.Core.Bool.{true}
+use mathlib.Core.List.{[]}
+use borrow.Author.Tests.{not-true, not-false}
 use lib.ListN.{length}
+use Rattle.text_lines.specs.Pulls.{left, leftOf}
+use Rattle.bench.specs.declared.player.Played.{Played}
+use Rattle.bench.specs.Playing.{Plays}
+use Rattle.bench.proofs.Playing.{plays-none, plays-failed, plays-line, well-found, shown-line}
 use Rattle.bench.proofs.player.run.Statement.{statement}
 use Rattle.bench.proofs.player.run.Tie as tie
 
 abbrev Inv-loop : tie.InvT-loop
-Inv-loop chunk₀ line₀ out₀ e₀ input₀ turns₀ chunk line out e input turns = (length chunk ≡ length chunk₀) × (length line ≡ length line₀) × (length out ≡ length out₀)
+Inv-loop chunk₀ line₀ out₀ e₀ input₀ turns₀ chunk line out e input turns = (length chunk ≡ length chunk₀) × (length line ≡ length line₀) × (length out ≡ length out₀) × ((r : Played) → Plays (length line₀) (leftOf input chunk) (e .number) (e .setup) r → Plays (length line₀) (left true []) (e₀ .number) (e₀ .setup) r)
 
 abbrev μ-loop : tie.MeasureT-loop
 μ-loop chunk₀ line₀ out₀ e₀ input₀ turns₀ chunk line out e input turns = turns
@@ -15,7 +22,7 @@ start-requires : tie.Need-start-requires Inv-loop μ-loop
 start-requires c κs = search needs
 
 loop-holds : tie.Need-loop-holds Inv-loop μ-loop
-loop-holds c = (refl, refl, refl)
+loop-holds c = (refl, refl, refl, λ r d. rw (c .start .ensures) at d)
 
 pull-line-requires : tie.Need-pull-line-requires Inv-loop μ-loop
 pull-line-requires c κs = search needs
@@ -30,7 +37,10 @@ same-length-3 : tie.Need-same-length-3 Inv-loop μ-loop
 same-length-3 c = c .before .before .before .before .before .before .before .before .before .before .before .before .loop .inv .2
 
 returns : tie.Need-returns Inv-loop μ-loop
-returns c = search needs
+returns c =
+    let v = c .before .before .before .before .before .before .before .before .before .before .before .before .loop .inv in
+    let l = c .before .before .before .before .before .before .before .pull-line .ensures in
+    v .3 _ (plays-none (not-true _ (c .if1 .taken)) (λ well. rw (v .1) at (l .line-is well)))
 
 shown-requires : tie.Need-shown-requires Inv-loop μ-loop
 shown-requires c κs = search needs
@@ -51,8 +61,17 @@ loop-less : tie.Need-loop-less Inv-loop μ-loop
 loop-less c = search needs
 
 loop-again : tie.Need-loop-again Inv-loop μ-loop
-loop-again c = let v = c .before .before .before .before .before .before .before .before .before .before .before .before .before .before .before .before .before .before .before .loop .inv in
-    (c .before .before .before .before .before .before .before .before .before .before .before .before .before .before .pull-line .kept .1 .1 .0 ∙ v .0, c .before .before .before .before .before .before .before .before .before .before .before .before .before .before .pull-line .kept .1 .1 .1 .0 ∙ v .1, c .before .before .add-line .kept .1 .1 .0 ∙ v .2)
+loop-again c =
+    let v = c .before .before .before .before .before .before .before .before .before .before .before .before .before .before .before .before .before .before .before .loop .inv in
+    let l = c .before .before .before .before .before .before .before .before .before .before .before .before .before .before .pull-line .ensures in
+    let k = c .before .before .before .before .before .before .before .before .before .before .before .before .before .before .pull-line .kept in
+    let d = c .before .before .add-line .ensures in
+    let there = not-false _ (c .before .before .before .before .before .before .before .if1 .left) in (
+      k .1 .1 .0 ∙ v .0,
+      k .1 .1 .1 .0 ∙ v .1,
+      c .before .before .add-line .kept .1 .1 .0 ∙ v .2,
+      λ r p. v .3 r (plays-line (rw (v .1, there) at (l .line-is (well-found (l .none-failed) there))) (d .number-is) (rw (shown-line (c .before .before .before .before .before .shown .ensures)) at (d .setup-is)) p),
+    )
 
 same-length-4 : tie.Need-same-length-4 Inv-loop μ-loop
 same-length-4 c = c .before .loop .inv .0
@@ -64,7 +83,7 @@ same-length-6 : tie.Need-same-length-6 Inv-loop μ-loop
 same-length-6 c = c .before .loop .inv .2
 
 returns-2 : tie.Need-returns-2 Inv-loop μ-loop
-returns-2 c = search needs
+returns-2 c = c .before .loop .inv .3 _ plays-failed
 
 pub run-spec : {M : Type 1} → statement M
 run-spec =
