@@ -1,0 +1,6 @@
+pub mod Numbers
+pub mod Messages
+pub mod Calls
+pub mod Clock
+pub mod Timers
+pub mod Desk
