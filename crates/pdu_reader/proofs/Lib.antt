@@ -1,0 +1,3 @@
+pub mod Words
+pub mod Locals
+pub mod Apart
