@@ -1,18 +1,23 @@
 // The reader: it keeps hold of the lent octets and its bit place. Each function takes it apart and calls the covered cursor on the two.
+use pdu::AirAnswer;
+use pdu::AirReading;
+use pdu::GroundAnswer;
 use pdu::downlink::AirRead;
 use pdu::downlink::read_air;
 use pdu::uplink::GroundRead;
 use pdu::uplink::read_ground;
+use pdu_parts::lists::no_list;
 use per::cursor::Cursor;
 use per::cursor::Flag;
 use per::cursor::Num;
 use per::cursor::SignedRead;
 ghost use mathlib.Core.Path.{_≡_};
-ghost use Rattle.per.specs.Pdu.{window, finish};
+ghost use Rattle.per.specs.Pdu.{window, finish, readPdu};
 ghost use Rattle.per.specs.Formats.{run, num, flag, extension, signed, mask, index, count, when};
 ghost use Rattle.per.specs.Reading.{Reads};
 ghost use Rattle.pdu.specs.DownlinkTable.{airC};
 ghost use Rattle.pdu.specs.UplinkTable.{groundC};
+ghost use Rattle.pdu.specs.Answers.{airReading, groundReading};
 
 // The octets of a PDU, and the place in them with the first refusal met.
 pub struct Reader<'a> {
@@ -123,9 +128,58 @@ impl<'a> Reader<'a> {
     }
 }
 
-// A ground PDU through the reader, for callers that hold no reader.
-pub fn held_ground(s: &[u8], c: Cursor) -> GroundRead
-    ensures { λ r. ⌜ Reads groundC (now (s .entry)) c (r .value) (r .next) ⌝ }
+// From a place through a reader that is made for it, for callers that hold none: the contracts are those of the covered functions.
+fn air_from(place: Cursor, octets: &[u8]) -> AirRead
+    ensures { λ r. ⌜ Reads airC (now (octets .entry)) place (r .value) (r .next) ⌝ }
 {
-    Reader::new(s, c).ground()
+    Reader::new(octets, place).air()
+}
+
+fn ground_from(place: Cursor, octets: &[u8]) -> GroundRead
+    ensures { λ r. ⌜ Reads groundC (now (octets .entry)) place (r .value) (r .next) ⌝ }
+{
+    Reader::new(octets, place).ground()
+}
+
+fn end_from(place: Cursor, octets: &[u8]) -> Cursor
+    ensures { λ r. ⌜ r ≡ finish (window (now (octets .entry))) place ⌝ }
+{
+    Reader::new(octets, place).finish()
+}
+
+// The whole of an aircraft PDU's octets, read through the reader: the answer is `pdu::decode_air`'s.
+pub fn held_air(octets: &[u8]) -> AirReading
+    ensures { λ r. ⌜ r ≡ airReading (readPdu airC (now (octets .entry))) ⌝ }
+{
+    let a = air_from(Cursor::start(octets), octets);
+    let end = end_from(a.next, octets);
+    let pdu = a.value;
+    let kind = pdu.kind;
+    let refusal = end.refusal;
+    if refusal != 0 {
+        let list = no_list();
+        return AirReading {
+            answer: AirAnswer::Refused(refusal),
+            list,
+        };
+    }
+    let list = pdu.list;
+    AirReading {
+        answer: AirAnswer::Good(kind),
+        list,
+    }
+}
+
+// The whole of a ground PDU's octets, read through the reader: the answer is `pdu::decode_ground`'s.
+pub fn held_ground(octets: &[u8]) -> GroundAnswer
+    ensures { λ r. ⌜ r ≡ groundReading (readPdu groundC (now (octets .entry))) ⌝ }
+{
+    let g = ground_from(Cursor::start(octets), octets);
+    let end = end_from(g.next, octets);
+    let value = g.value;
+    let refusal = end.refusal;
+    if refusal != 0 {
+        return GroundAnswer::Refused(refusal);
+    }
+    GroundAnswer::Good(value)
 }
