@@ -21,7 +21,7 @@ fn say_refused(task: Task, out: &mut Page, at: usize, n: u8) -> usize {
 }
 
 fn read_air(octets: &[u8]) -> AirReading {
-    pdu::decode_air(octets)
+    pdu_reader::held_air(octets)
 }
 
 fn say_air(task: Task, out: &mut Page, at: usize, octets: &[u8]) -> usize {
@@ -38,7 +38,7 @@ fn say_air(task: Task, out: &mut Page, at: usize, octets: &[u8]) -> usize {
 }
 
 fn read_ground(octets: &[u8]) -> GroundAnswer {
-    pdu::decode_ground(octets)
+    pdu_reader::held_ground(octets)
 }
 
 fn say_ground(task: Task, out: &mut Page, at: usize, octets: &[u8]) -> usize {
