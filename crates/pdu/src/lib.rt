@@ -15,7 +15,7 @@ use per::cursor::Cursor;
 use per::pen::Pen;
 use per::pen::Written;
 ghost use mathlib.Core.Path.{_≡_};
-ghost use Rattle.per.specs.Pdu.{readPdu};
+ghost use Rattle.per.specs.Pdu.{answer, readPdu};
 ghost use Rattle.pdu.specs.DownlinkTable.{airC};
 ghost use Rattle.pdu.specs.UplinkTable.{groundC};
 ghost use Rattle.pdu.specs.Answers.{airReading, groundReading, Sends};
@@ -38,15 +38,11 @@ pub enum GroundAnswer {
     Refused(u8),
 }
 
-// The whole of an aircraft PDU's octets.
-pub fn decode_air(s: &[u8]) -> AirReading
-    ensures { λ r. ⌜ r ≡ airReading (readPdu airC (now (s .entry))) ⌝ }
+// What reading an aircraft PDU gives, from its value and the refusal met up to its end (0: none).
+pub fn answer_air(pdu: AirPdu, refusal: u8) -> AirReading
+    ensures { λ r. ⌜ r ≡ airReading (answer refusal pdu) ⌝ }
 {
-    let r = read_air(Cursor::start(s), s);
-    let end = r.next.finish(s);
-    let pdu = r.value;
     let kind = pdu.kind;
-    let refusal = end.refusal;
     if refusal != 0 {
         let list = no_list();
         return AirReading {
@@ -61,18 +57,34 @@ pub fn decode_air(s: &[u8]) -> AirReading
     }
 }
 
-// The whole of a ground PDU's octets.
-pub fn decode_ground(s: &[u8]) -> GroundAnswer
-    ensures { λ r. ⌜ r ≡ groundReading (readPdu groundC (now (s .entry))) ⌝ }
+// The same of a ground PDU.
+pub fn answer_ground(value: Ground, refusal: u8) -> GroundAnswer
+    ensures { λ r. ⌜ r ≡ groundReading (answer refusal value) ⌝ }
 {
-    let r = read_ground(Cursor::start(s), s);
-    let end = r.next.finish(s);
-    let value = r.value;
-    let refusal = end.refusal;
     if refusal != 0 {
         return GroundAnswer::Refused(refusal);
     }
     GroundAnswer::Good(value)
+}
+
+// The whole of an aircraft PDU's octets.
+pub fn decode_air(s: &[u8]) -> AirReading
+    ensures { λ r. ⌜ r ≡ airReading (readPdu airC (now (s .entry))) ⌝ }
+{
+    let a = read_air(Cursor::start(s), s);
+    let end = a.next.finish(s);
+    let pdu = a.value;
+    answer_air(pdu, end.refusal)
+}
+
+// The whole of a ground PDU's octets.
+pub fn decode_ground(s: &[u8]) -> GroundAnswer
+    ensures { λ r. ⌜ r ≡ groundReading (readPdu groundC (now (s .entry))) ⌝ }
+{
+    let g = read_ground(Cursor::start(s), s);
+    let end = g.next.finish(s);
+    let value = g.value;
+    answer_ground(value, end.refusal)
 }
 
 // An aircraft PDU into the caller's octets.

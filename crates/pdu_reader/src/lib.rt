@@ -1,12 +1,12 @@
 // The reader: it keeps hold of the lent octets and its bit place. Each function takes it apart and calls the covered cursor on the two.
-use pdu::AirAnswer;
 use pdu::AirReading;
 use pdu::GroundAnswer;
+use pdu::answer_air;
+use pdu::answer_ground;
 use pdu::downlink::AirRead;
 use pdu::downlink::read_air;
 use pdu::uplink::GroundRead;
 use pdu::uplink::read_ground;
-use pdu_parts::lists::no_list;
 use per::cursor::Cursor;
 use per::cursor::Flag;
 use per::cursor::Num;
@@ -154,20 +154,7 @@ pub fn held_air(octets: &[u8]) -> AirReading
     let a = air_from(Cursor::start(octets), octets);
     let end = end_from(a.next, octets);
     let pdu = a.value;
-    let kind = pdu.kind;
-    let refusal = end.refusal;
-    if refusal != 0 {
-        let list = no_list();
-        return AirReading {
-            answer: AirAnswer::Refused(refusal),
-            list,
-        };
-    }
-    let list = pdu.list;
-    AirReading {
-        answer: AirAnswer::Good(kind),
-        list,
-    }
+    answer_air(pdu, end.refusal)
 }
 
 // The whole of a ground PDU's octets, read through the reader: the answer is `pdu::decode_ground`'s.
@@ -177,9 +164,5 @@ pub fn held_ground(octets: &[u8]) -> GroundAnswer
     let g = ground_from(Cursor::start(octets), octets);
     let end = end_from(g.next, octets);
     let value = g.value;
-    let refusal = end.refusal;
-    if refusal != 0 {
-        return GroundAnswer::Refused(refusal);
-    }
-    GroundAnswer::Good(value)
+    answer_ground(value, end.refusal)
 }

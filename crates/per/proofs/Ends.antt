@@ -1,6 +1,6 @@
 -- The start and the end of a PDU as the code judges them. Assumes nothing.
-use Prim.Native.Nat.{ℕ, zero, suc, _+_, _-_, _≤_, _<_}
-use mathlib.Core.Path.{_≡_, refl, sym, ap, _∙_}
+use Prim.Native.Nat.{ℕ, zero, suc, _+_, _≤_, _<_}
+use mathlib.Core.Path.{_≡_, refl, sym, ap}
 use mathlib.Core.Bool.{Bool, false}
 use mathlib.Core.List.{List}
 use native.Mathlib.Omega.{arith}
@@ -10,7 +10,7 @@ use Rattle.per.specs.declared.cursor.Cursor.{Cursor}
 use Rattle.per.specs.Bits.{ofBit, numAt}
 use Rattle.per.specs.Codec.{Codec, refuse}
 use Rattle.per.specs.laws.Codec.{first-not}
-use Rattle.per.specs.Pdu.{fill, window, start, ending, finish, got, refused, answer, readPdu}
+use Rattle.per.specs.Pdu.{fill, window, start, ending, finish, refused, answer, readPdu}
 use Rattle.per.specs.Reading.{Reads}
 
 -- past the end there are no ones
@@ -42,17 +42,10 @@ unfolding finish
 finish-judged bs j e z q = rw (z, q)
 
 -- ---- a whole PDU, from what its reader and the judgement of its end say
-answer-refused : {A : Type 0} (n : ℕ) (a : A) → (n ≡ 0 → ⊥) → answer n a ≡ refused n
+pub answer-refused : {A : Type 0} (n : ℕ) (a : A) → (n ≡ 0 → ⊥) → answer n a ≡ refused n
 answer-refused zero a h = absurd (h refl)
 answer-refused (suc n) a h = refl
 
-module _ {A : Type 0} (c : Codec A) {s : List ℕ} {j n e : Cursor} {v : A} (b : j ≡ start s) (r : Reads c s j v n) (f : e ≡ finish (window s) n) where
-  pdu-is : readPdu c s ≡ answer (e .refusal) v
-  unfolding readPdu
-  pdu-is = rw (← b, ← r .value-is, ← r .next-is, f)
-
-  pub pdu-refused : (e .refusal ≡ 0 → ⊥) → readPdu c s ≡ refused (e .refusal)
-  pdu-refused h = pdu-is ∙ answer-refused (e .refusal) v h
-
-  pub pdu-got : e .refusal ≡ 0 → readPdu c s ≡ got v
-  pdu-got h = pdu-is ∙ ap (λ (k : ℕ). answer k v) h
+pub pdu-is : {A : Type 0} (c : Codec A) {s : List ℕ} {j n e : Cursor} {v : A} → j ≡ start s → Reads c s j v n → e ≡ finish (window s) n → readPdu c s ≡ answer (e .refusal) v
+unfolding readPdu
+pdu-is c b r f = rw (← b, ← r .value-is, ← r .next-is, f)
