@@ -1,154 +1,56 @@
-// Aircraft PDUs. Their numbers: 0 the kind, 1 and 2 what goes with it, 3 the count of the list, 4 presence bits, 5 to 8 latitude, 9 to 12 longitude,
-// 13 level, 14 to 20 time, 21 to 23 figure of merit, 24 address.
-use crate::form::put_form;
-use crate::lists::NAMES;
-use crate::lists::put_list;
+// Aircraft PDUs in words: the rows `airRows`.
 use crate::page::Page;
-use crate::words::ABORT;
-use crate::words::ACCURACY;
-use crate::words::ELEMENT;
-use crate::words::EVENT;
-use crate::words::REASON;
-use crate::words::REQUEST;
-use crate::words::word;
-use host_numbers::numbers::number;
-use host_numbers::places::*;
-use pdu_parts::elements::ADDRESS;
+use crate::rows::put_rows;
+ghost use Rattle.text.specs.Page.{page, Writes};
+ghost use Rattle.pdu_words.specs.AirRows.{airWords};
 
-// What a PDU ends in, where it is no list.
-const REPORT: u32 = 1;
+const AIR: [u64; 41] = [
+    0xfff_0_00_0_3a_0_00_00_00,
+    0x001_0_00_0_45_0_00_00_00,
+    0x002_0_00_0_46_0_00_00_00,
+    0x004_0_00_0_47_0_00_00_00,
+    0x008_0_00_0_48_7_0e_02_00,
+    0x010_0_00_0_49_7_01_01_3e,
+    0x010_0_00_0_00_7_0a_02_00,
+    0x010_2_02_2_4a_1_00_03_00,
+    0x010_2_02_2_00_9_00_03_00,
+    0x020_2_01_0_4b_0_00_00_03,
+    0x020_2_01_1_4b_0_00_00_01,
+    0x020_2_01_2_4b_0_00_00_02,
+    0x020_0_00_0_3c_1_00_03_4c,
+    0x020_2_01_1_00_9_0e_03_00,
+    0x020_3_01_1_00_9_1a_03_00,
+    0x040_0_00_0_4d_0_00_00_00,
+    0x080_0_00_0_4e_7_01_01_00,
+    0x100_0_00_0_4f_1_00_01_3f,
+    0x100_0_00_0_00_7_2a_01_40,
+    0x04e_2_01_1_50_0_00_00_00,
+    0x04e_0_00_0_3c_2_00_06_3d,
+    0x04e_0_00_0_00_2_00_07_3d,
+    0x04e_0_00_0_00_4_00_08_3d,
+    0x04e_0_00_0_00_7_32_05_00,
+    0x04e_0_00_0_3c_3_00_0a_3d,
+    0x04e_0_00_0_00_2_00_0b_3d,
+    0x04e_0_00_0_00_4_00_0c_3d,
+    0x04e_0_00_0_00_7_34_09_00,
+    0x04e_0_00_0_51_5_00_0d_52,
+    0x04e_0_00_0_3c_1_00_0e_41,
+    0x04e_0_00_0_00_2_00_0f_41,
+    0x04e_0_00_0_00_2_00_10_3d,
+    0x04e_0_00_0_00_2_00_12_42,
+    0x04e_0_00_0_00_2_00_13_00,
+    0x04e_2_11_1_42_2_00_14_00,
+    0x04e_0_00_0_53_1_00_15_3f,
+    0x04e_0_00_0_00_7_22_15_40,
+    0x04e_0_00_0_54_7_36_16_00,
+    0x04e_0_00_0_55_7_36_17_00,
+    0x04a_1_04_6_56_6_00_18_00,
+    0x004_1_04_1_56_6_00_18_00,
+];
 
-const NOTHING: u32 = 2;
-
-// What a PDU ends in. Reason 2 alone of a negative ack carries names.
-fn end(kind: u32, first: u32, second: u32) -> u32 {
-    match kind {
-        1..=3 => REPORT,
-        4 => {
-            if second == 2 {
-                return NAMES;
-            }
-            NOTHING
-        }
-        5 => {
-            if first == 1 {
-                return EVENT;
-            }
-            ELEMENT
-        }
-        6 => REPORT,
-        _ => NOTHING,
-    }
-}
-
-// The contract of a kind of noncompliance, by the number of its request.
-fn request_of(kind: u32) -> u32 {
-    match kind {
-        0 => 2,
-        1 => 0,
-        _ => 1,
-    }
-}
-
-// What the start of a line takes: of the last choice, which has one text, the place of `NAMES`.
-fn start(f: &[u32], end: u32) -> [u32; 11] {
-    let first = number(f, A_WHAT);
-    let second = number(f, A_DETAIL);
-    let count = number(f, A_COUNT);
-    [
-        number(f, A_KIND),
-        word(EVENT, second),
-        word(REQUEST, first),
-        word(REASON, second),
-        word(REQUEST, request_of(first)),
-        count,
-        word(REQUEST, first),
-        first,
-        word(ABORT, first),
-        end,
-        count,
-    ]
-}
-
-// A number in two's complement without its sign.
-fn size(n: u32) -> u32 {
-    if n < 2147483648 {
-        return n;
-    }
-    4294967295 - n + 1
-}
-
-// The zero behind tens of feet.
-fn zeros(level: u32) -> u32 {
-    if level == 0 { 0 } else { 1 }
-}
-
-// The presence bit of the address.
-fn addressed(kind: u32, bits: u32) -> u32 {
-    if kind == 2 {
-        return bits / 2 % 2;
-    }
-    bits / ADDRESS % 2
-}
-
-fn report(f: &[u32]) -> [u32; 30] {
-    let north = number(f, A_LATITUDE_TENTHS);
-    let east = number(f, A_LONGITUDE_TENTHS);
-    let level = number(f, A_LEVEL);
-    let address = number(f, A_ADDRESS);
-    [
-        number(f, A_WHAT),
-        number(f, A_LATITUDE),
-        number(f, A_LATITUDE_MINUTES),
-        north / 10,
-        north % 10,
-        number(f, A_SOUTH),
-        number(f, A_LONGITUDE) / 100,
-        number(f, A_LONGITUDE),
-        number(f, A_LONGITUDE_MINUTES),
-        east / 10,
-        east % 10,
-        number(f, A_WEST),
-        level / 2147483648,
-        size(level),
-        zeros(level),
-        number(f, A_YEAR),
-        number(f, A_MONTH),
-        number(f, A_DAY),
-        number(f, A_HOURS),
-        number(f, A_MINUTES),
-        number(f, A_HAS_SECONDS),
-        number(f, A_SECONDS),
-        number(f, A_ACCURACY),
-        word(ACCURACY, number(f, A_ACCURACY)),
-        number(f, A_UNITS),
-        number(f, A_AVOIDANCE),
-        addressed(number(f, A_KIND), number(f, A_ELEMENTS)),
-        address / 65536,
-        address / 256,
-        address,
-    ]
-}
-
-// The octets are those of the list. The sign of an angle is its hemisphere, so that minus zero shows; 002 counts levels in tens of feet.
-pub fn put_air(out: &mut Page, at: usize, f: &[u32], items: &[u8]) -> usize {
-    let end = end(number(f, A_KIND), number(f, A_WHAT), number(f, A_DETAIL));
-    let a = put_form(
-        out,
-        at,
-        b"air: {cancel emergency|demand report|emergency report|event report: &|negative ack to &: &|\
-        noncompliance with &, # not met|periodic report|positive ack to &|provider abort # (&)}{, used by #}",
-        &start(f, end),
-    );
-    match end {
-        NOTHING => a,
-        REPORT => put_form(
-            out,
-            a,
-            b"{|, positive ack}, % % %.# {N|S}, {0|1}% % %.# {E|W}, level {|-}#{|0} ft, #-%-% %:%{|:%}, \
-            accuracy # (&), multiple units {no|yes}, acas {no|yes}{|, aircraft $$$}",
-            &report(f),
-        ),
-        _ => put_list(out, a, end, number(f, A_COUNT), items),
-    }
+// `f` are the numbers of a PDU, and `items` the octets of its list.
+pub(crate) fn put_air(out: &mut Page, at: usize, f: &[u32], items: &[u8]) -> usize
+    ensures { λ r. ⌜ Writes (page (now (out .entry)) at) (airWords (now (f .entry)) (now (items .entry))) (page (now (out .exit)) r) ⌝ }
+{
+    put_rows(out, at, &AIR, f, items)
 }

@@ -1,11 +1,12 @@
 // A PDU as a line for a person, in the words of 01, 002 and 003; lines of PDUs from standard input, an answer for each.
-pub mod air;
+mod air;
 mod code;
-mod form;
-pub mod ground;
+mod ground;
 mod line;
 pub mod lines;
 mod lists;
 pub mod page;
+mod rows;
 mod tell;
-pub mod words;
+mod ways;
+mod words;

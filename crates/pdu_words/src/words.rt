@@ -1,35 +1,19 @@
-// Names of numbers: 01's word where it has one, else 002's, and 003's where 002 has none.
+// Words by their numbers: 01's word where it has one, else 002's, and 003's where 002 has none.
 use crate::page::Page;
-use std::num::wrapping_add_u32;
 use text::words::put_word;
+ghost use Rattle.text.specs.Page.{page, Writes};
+ghost use Rattle.text.specs.Words.{wordAt};
+ghost use Rattle.pdu_words.specs.Names.{names, refusalWords};
 
-// Where the names of a kind start among the words.
-pub(crate) const REQUEST: u32 = 0;
-
-pub(crate) const REASON: u32 = 10;
-
-pub(crate) const EVENT: u32 = 14;
-
-pub(crate) const ELEMENT: u32 = 26;
-
-pub(crate) const ACCURACY: u32 = 34;
-
-pub(crate) const ABORT: u32 = 42;
-
-pub(crate) fn word(kind: u32, n: u32) -> u32 {
-    wrapping_add_u32(kind, n)
-}
-
-// Requests (003, RequestType: 002 has no end forward), and the two ground PDUs that are none; reasons of a negative ack (003, Reason: 002's text
-// says "cannot meet reporting rate" too, its type says "undefined"); events (002, EventTypeReported and EventTypeContracted, which ends at level
-// change); elements of a report (002, ReportType, and ReportTypeAndPeriod, which alone has the last); accuracies (002, PositionAccuracy: nm are
-// nautical miles); and reasons of an abort (002, AbortReason).
-pub(crate) fn put_name(out: &mut Page, at: usize, n: u32) -> usize {
+// Word n of `names`, which says what they are; nothing past the last.
+pub(crate) fn put_name(out: &mut Page, at: usize, n: usize) -> usize
+    ensures { λ r. ⌜ Writes (page (now (out .entry)) at) (wordAt names n) (page (now (out .exit)) r) ⌝ }
+{
     put_word(
         out,
         at,
         b"event contractperiodic contractdemand contractcancel event contractcancel periodic contract\
-        modify emergency contractcancel all contractsend forward contractcancel emergency ackprovider abort\
+        modify emergency contractcancel all contractsend forward contractcancel emergency ack\
         ADS service unavailablecannot meet reporting ratemaximum capacity exceededundefined reason\
         lateral deviation changevertical rate changelevel thresholdwaypoint changeair speed changeground speed change\
         heading changeextended projected profile changefigure of merit changetrack angle changelevel changebaseline\
@@ -37,8 +21,16 @@ pub(crate) fn put_name(out: &mut Page, at: usize, n: u32) -> usize {
         reporting rate\
         complete lossunder 30 nmunder 15 nmunder 8 nmunder 4 nmunder 1 nmunder 0.25 nmunder 0.05 nm\
         communications service failureunrecoverable system errorinvalid PDUsequence errortimer expiry\
-        cannot establish contactundefined errordialogue end not accepted",
+        cannot establish contactundefined errordialogue end not accepted\
+        NS\
+        EW\
+        noyes\
+        secondminute\
+        air: ground: ,  :  ()-:s every cancel emergencydemand reportemergency reportevent report: negative ack to \
+        , used by noncompliance with  not metperiodic reportpositive ack to provider abort , positive ack, level  ft\
+        , accuracy , multiple units , acas , aircraft ",
         &[
+            0,
             0,
             14,
             31,
@@ -49,54 +41,92 @@ pub(crate) fn put_name(out: &mut Page, at: usize, n: u32) -> usize {
             136,
             156,
             176,
-            190,
-            213,
-            239,
-            264,
-            280,
-            304,
-            324,
-            339,
-            354,
-            370,
+            199,
+            225,
+            250,
+            266,
+            290,
+            310,
+            325,
+            340,
+            356,
+            375,
             389,
-            403,
-            436,
-            458,
-            476,
-            488,
-            496,
-            512,
-            529,
-            542,
-            552,
-            559,
-            576,
+            422,
+            444,
+            462,
+            474,
+            482,
+            498,
+            515,
+            528,
+            538,
+            545,
+            562,
+            588,
             602,
-            616,
-            629,
-            640,
-            651,
-            661,
-            671,
-            681,
-            694,
-            707,
-            737,
-            763,
+            615,
+            626,
+            637,
+            647,
+            657,
+            667,
+            680,
+            693,
+            723,
+            749,
+            760,
             774,
-            788,
-            800,
-            824,
-            839,
-            864,
+            786,
+            810,
+            825,
+            850,
+            851,
+            852,
+            853,
+            854,
+            856,
+            859,
+            865,
+            871,
+            876,
+            884,
+            886,
+            887,
+            889,
+            891,
+            892,
+            893,
+            894,
+            895,
+            902,
+            918,
+            931,
+            947,
+            961,
+            977,
+            987,
+            1006,
+            1014,
+            1029,
+            1045,
+            1060,
+            1074,
+            1082,
+            1085,
+            1096,
+            1113,
+            1120,
+            1131,
         ],
-        n as usize,
+        n,
     )
 }
 
 // Why a reading was refused (01, "Refusal numbers", which start at 7).
-pub fn put_refusal(out: &mut Page, at: usize, n: u8) -> usize {
+pub(crate) fn put_refusal(out: &mut Page, at: usize, n: u8) -> usize
+    ensures { λ r. ⌜ Writes (page (now (out .entry)) at) (wordAt refusalWords n) (page (now (out .exit)) r) ⌝ }
+{
     put_word(
         out,
         at,

@@ -1,22 +1,33 @@
+use mathlib.Core.Path.{refl, sym, _∙_, _≡_}
 use Prim.Native.Nat.{_-_, _≤_}
+use lib.ListN.{drop, take}
+use native.Mathlib.Omega.{arith}
+use denote.Ref.{now}
+use Rattle.text.specs.Page.{page, wrote}
 use borrow.Author.Needs.{needs}
+use Rattle.pdu_words.specs.Ways.{itemsText, octetsIn, listText}
+use Rattle.pdu_words.proofs.Loops.{item-step, item-end}
 use Rattle.pdu_words.proofs.lists.put_list.Statement.{statement}
 use Rattle.pdu_words.proofs.lists.put_list.Tie as tie
 
 abbrev Inv-loop : tie.InvT-loop
-Inv-loop out₀ at what count items n a₀ i₀ out a i = i ≤ n
+Inv-loop out₀ at first count items n a₀ i₀ out a i = (i ≤ n) × (wrote (page out a) (itemsText first i (drop i (take (octetsIn first count) items))) ≡ wrote (page out₀ at) (listText first count items))
 
 abbrev μ-loop : tie.MeasureT-loop
-μ-loop out₀ at what count items n a₀ i₀ out a i = n - i
+μ-loop out₀ at first count items n a₀ i₀ out a i = n - i
 
-octets-requires : tie.Need-octets-requires Inv-loop μ-loop
-octets-requires c κs = search needs
+octets-in-requires : tie.Need-octets-in-requires Inv-loop μ-loop
+octets-in-requires c κs = search needs
 
 least-requires : tie.Need-least-requires Inv-loop μ-loop
 least-requires c κs = search needs
 
 loop-holds : tie.Need-loop-holds Inv-loop μ-loop
-loop-holds c = search needs
+unfolding listText
+loop-holds c = (omega arith, refl)
+
+put-mark-requires : tie.Need-put-mark-requires Inv-loop μ-loop
+put-mark-requires c κs = search needs
 
 shared-slice-read-put-item : tie.Need-shared-slice-read-put-item Inv-loop μ-loop
 shared-slice-read-put-item c = search needs
@@ -31,10 +42,14 @@ loop-less : tie.Need-loop-less Inv-loop μ-loop
 loop-less c = search needs
 
 loop-again : tie.Need-loop-again Inv-loop μ-loop
-loop-again c = search needs
+unfolding listText
+loop-again c =
+    let k = c .before .before .before .before .before .before .loop in let s = c .before .before .before .before .before .before .before .before .before .before .args in let are = c .before .before .before .before .before .before .before .least .ensures .is in let e = c .before .before .before .before .before .before .before .before .octets-in .ensures in (omega arith, item-step (s .first) (octetsIn (s .first) (s .count)) (c .before .before .before .before .before .before .before .least .result) (k .i) (now (s .items)) (rw (← e) are) (omega (arith, c .before .before .before .before .before .loop-test .taken)) (c .before .before .before .put-mark .ensures) (c .put-item .ensures) ∙ k .inv .1)
 
 returns : tie.Need-returns Inv-loop μ-loop
-returns c = search needs
+unfolding listText
+returns c =
+    let k = c .before .loop in let s = c .before .before .before .before .before .args in let are = c .before .before .least .ensures .is in let e = c .before .before .before .octets-in .ensures in record { is = sym (item-end (s .first) (octetsIn (s .first) (s .count)) (c .before .before .least .result) (k .i) (now (s .items)) (rw (← e) are) (page (k .out) (k .a)) (omega (arith, c .loop-test .left))) ∙ k .inv .1 }
 
 pub put-list-spec : {M : Type 1} → statement M
 put-list-spec =
@@ -42,9 +57,10 @@ put-list-spec =
     (tie.spec
     Inv-loop
     μ-loop
-    octets-requires
+    octets-in-requires
     least-requires
     loop-holds
+    put-mark-requires
     shared-slice-read-put-item
     put-item-requires
     add-i

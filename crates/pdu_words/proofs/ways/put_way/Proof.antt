@@ -1,0 +1,101 @@
+use borrow.Author.Tests.{ne-eqb}
+use mathlib.Core.Path.{refl}
+use Rattle.pdu_words.specs.Ways.{wayText, wayOf}
+use borrow.Author.Needs.{needs}
+use Rattle.pdu_words.proofs.ways.put_way.Statement.{statement}
+use Rattle.pdu_words.proofs.ways.put_way.Tie as tie
+
+put-decimal-requires : tie.Need-put-decimal-requires
+put-decimal-requires c κs = search needs
+
+put-two-requires : tie.Need-put-two-requires
+put-two-requires c κs = search needs
+
+put-three-requires : tie.Need-put-three-requires
+put-three-requires c κs = search needs
+
+put-seconds-requires : tie.Need-put-seconds-requires
+put-seconds-requires c κs = search needs
+
+put-tens-requires : tie.Need-put-tens-requires
+put-tens-requires c κs = search needs
+
+put-octets-requires : tie.Need-put-octets-requires
+put-octets-requires c κs = search needs
+
+add-put-name : tie.Need-add-put-name
+add-put-name c = search needs
+
+put-name-requires : tie.Need-put-name-requires
+put-name-requires c κs = search needs
+
+put-nth-requires : tie.Need-put-nth-requires
+put-nth-requires c κs = search needs
+
+put-list-requires : tie.Need-put-list-requires
+put-list-requires c κs = search needs
+
+returns : tie.Need-returns
+unfolding wayText wayOf
+returns c = rw (c .before .before .match .keys1) (c .put-decimal .ensures)
+
+returns-2 : tie.Need-returns-2
+unfolding wayText wayOf
+returns-2 c = rw (c .before .before .match .keys2) (c .put-two .ensures)
+
+returns-3 : tie.Need-returns-3
+unfolding wayText wayOf
+returns-3 c = rw (c .before .before .match .keys3) (c .put-three .ensures)
+
+returns-4 : tie.Need-returns-4
+unfolding wayText wayOf
+returns-4 c = rw (c .before .before .match .keys4) (c .put-seconds .ensures)
+
+returns-5 : tie.Need-returns-5
+unfolding wayText wayOf
+returns-5 c = rw (c .before .before .match .keys5) (c .put-tens .ensures)
+
+returns-6 : tie.Need-returns-6
+unfolding wayText wayOf
+returns-6 c = rw (c .before .before .match .keys6) (c .put-octets .ensures)
+
+returns-7 : tie.Need-returns-7
+unfolding wayText wayOf
+returns-7 c = rw (c .before .before .match .keys7) (c .put-name .ensures)
+
+returns-8 : tie.Need-returns-8
+unfolding wayText wayOf
+returns-8 c = rw (c .before .before .match .keys8) (c .put-nth .ensures)
+
+returns-9 : tie.Need-returns-9
+unfolding wayText wayOf
+returns-9 c = rw (c .before .before .match .keys9) (c .put-list .ensures)
+
+returns-10 : tie.Need-returns-10
+unfolding wayText wayOf
+returns-10 c = rw (ne-eqb _ 1 (c .match .rest .0 .0 .0 .0 .0 .0 .0 .0 .1), ne-eqb _ 2 (c .match .rest .0 .0 .0 .0 .0 .0 .0 .1), ne-eqb _ 3 (c .match .rest .0 .0 .0 .0 .0 .0 .1), ne-eqb _ 4 (c .match .rest .0 .0 .0 .0 .0 .1), ne-eqb _ 5 (c .match .rest .0 .0 .0 .0 .1), ne-eqb _ 6 (c .match .rest .0 .0 .0 .1), ne-eqb _ 7 (c .match .rest .0 .0 .1), ne-eqb _ 8 (c .match .rest .0 .1), ne-eqb _ 9 (c .match .rest .1)) (record { is = refl })
+
+pub put-way-spec : {M : Type 1} → statement M
+put-way-spec =
+    tie.close
+    (tie.spec
+    put-decimal-requires
+    put-two-requires
+    put-three-requires
+    put-seconds-requires
+    put-tens-requires
+    put-octets-requires
+    add-put-name
+    put-name-requires
+    put-nth-requires
+    put-list-requires
+    returns
+    returns-2
+    returns-3
+    returns-4
+    returns-5
+    returns-6
+    returns-7
+    returns-8
+    returns-9
+    returns-10)

@@ -1,0 +1,5 @@
+pub mod Names
+pub mod Ways
+pub mod Rows
+pub mod AirRows
+pub mod GroundRows

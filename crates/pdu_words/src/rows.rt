@@ -1,0 +1,79 @@
+// The interpreter of rows. A row is a number, read by its hexadecimal digits from the left: 3 the kinds that show it, a bit for each; 1 the test of its guard, 2 the
+// place and 1 the number that the test takes; 2 the label; 1 the way in which a number is shown, 2 the first word of the list that the way takes, 2 the place of the number;
+// 2 the unit. Labels and units are words. specs/Rows.antt has the rows with names and texts, and a proof compares.
+use crate::page::Page;
+use crate::ways::put_way;
+use crate::words::put_name;
+use host_numbers::numbers::number;
+ghost use mathlib.Core.Path.{_≡_};
+ghost use Prim.Native.Nat.{_<_};
+ghost use Rattle.text.specs.Page.{page, Writes};
+ghost use Rattle.pdu_words.specs.Rows.{showsKind, passes, testOf, chosen, rowText, rowsText, rowOf, rowsOf};
+
+fn shows_kind(kinds: u64, kind: u32) -> bool
+    ensures { λ r. ⌜ r ≡ showsKind kinds kind ⌝ }
+{
+    if kind < 12 {
+        return (kinds >> kind) % 2 == 1;
+    }
+    false
+}
+
+// Whether a number passes a guard's test: always, by a bit, where it is m, or where it is not.
+fn does_pass(test: u64, m: u32, n: u32) -> bool
+    requires { ⌜ m < 16 ⌝ }
+    ensures { λ r. ⌜ r ≡ passes (testOf test m) n ⌝ }
+{
+    match test {
+        0 => true,
+        1 => (n >> m) % 2 == 1,
+        2 => n == m,
+        _ => n != m,
+    }
+}
+
+fn is_chosen(row: u64, f: &[u32]) -> bool
+    ensures { λ r. ⌜ r ≡ chosen (rowOf row) (now (f .entry)) ⌝ }
+{
+    if shows_kind(row / 4503599627370496, number(f, 0)) {
+        let n = number(f, (row / 1099511627776 % 256) as usize);
+        return does_pass(
+            row / 281474976710656 % 16,
+            (row / 68719476736 % 16) as u32,
+            n,
+        );
+    }
+    false
+}
+
+fn put_row(out: &mut Page, at: usize, row: u64, f: &[u32], items: &[u8]) -> usize
+    ensures { λ r. ⌜ Writes (page (now (out .entry)) at) (rowText (rowOf row) (now (f .entry)) (now (items .entry))) (page (now (out .exit)) r) ⌝ }
+{
+    if is_chosen(row, f) {
+        let a = put_name(out, at, (row / 268435456 % 256) as usize);
+        let n = number(f, (row / 256 % 256) as usize);
+        let a = put_way(
+            out,
+            a,
+            row / 16777216 % 16,
+            (row / 65536 % 256) as u8,
+            n,
+            items,
+        );
+        return put_name(out, a, (row % 256) as usize);
+    }
+    at
+}
+
+// Row after row, of those that are shown of the PDU with the numbers f and the list `items`.
+pub(crate) fn put_rows(out: &mut Page, at: usize, table: &[u64], f: &[u32], items: &[u8]) -> usize
+    ensures { λ r. ⌜ Writes (page (now (out .entry)) at) (rowsText (rowsOf (now (table .entry))) (now (f .entry)) (now (items .entry))) (page (now (out .exit)) r) ⌝ }
+{
+    let mut a = at;
+    let mut i = 0;
+    while i < table.len() {
+        a = put_row(out, a, table[i], f, items);
+        i += 1;
+    }
+    a
+}
