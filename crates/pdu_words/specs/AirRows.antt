@@ -4,8 +4,8 @@ use mathlib.Core.List.{List, [], _∷_}
 use Prim.Native.Nat.{ℕ, _+_}
 use Rattle.pdu_parts.specs.Elements.{ADDRESS, EMERGENCY-ADDRESS}
 use Rattle.host_numbers.specs.Places.{A-WHAT, A-DETAIL, A-COUNT, A-ELEMENTS, A-SOUTH, A-LATITUDE, A-LATITUDE-MINUTES, A-LATITUDE-TENTHS, A-WEST, A-LONGITUDE, A-LONGITUDE-MINUTES, A-LONGITUDE-TENTHS, A-LEVEL, A-YEAR, A-MONTH, A-DAY, A-HAS-SECONDS, A-HOURS, A-MINUTES, A-SECONDS, A-ACCURACY, A-UNITS, A-AVOIDANCE, A-ADDRESS}
-use Rattle.pdu_words.specs.Names.{REQUEST, REASON, EVENT, ELEMENT, ACCURACY, ABORT, NORTH, EAST, NO}
-use Rattle.pdu_words.specs.Ways.{number, two, three, seconds, tens, octets, word, list}
+use Rattle.pdu_words.specs.Names.{requests, reasons, events, elements, accuracies, abortReasons, norths, easts, truths}
+use Rattle.pdu_words.specs.Ways.{number, two, three, seconds, tens, octets, word, list, names}
 use Rattle.pdu_words.specs.Rows.{only, every, always, has, is, isnt, Row, row, say, rowsText}
 
 -- the kinds that carry a report, and those whose report has seven presence bits
@@ -22,30 +22,30 @@ airRows =
     ∷ say (only 0) always "cancel emergency" ""
     ∷ say (only 1) always "demand report" ""
     ∷ say (only 2) always "emergency report" ""
-    ∷ row (only 3) always "event report: " (word EVENT) A-DETAIL ""
-    ∷ row (only 4) always "negative ack to " (word REQUEST) A-WHAT ": "
-    ∷ row (only 4) always "" (word REASON) A-DETAIL ""
+    ∷ row (only 3) always "event report: " (word events) A-DETAIL ""
+    ∷ row (only 4) always "negative ack to " (word requests) A-WHAT ": "
+    ∷ row (only 4) always "" (word reasons) A-DETAIL ""
     ∷ row (only 4) (is A-DETAIL 2) ", used by " number A-COUNT ""
-    ∷ row (only 4) (is A-DETAIL 2) "" (list 0) A-COUNT ""
+    ∷ row (only 4) (is A-DETAIL 2) "" names A-COUNT ""
     ∷ say (only 5) (is A-WHAT 0) "noncompliance with " "demand contract"
     ∷ say (only 5) (is A-WHAT 1) "noncompliance with " "event contract"
     ∷ say (only 5) (is A-WHAT 2) "noncompliance with " "periodic contract"
     ∷ row (only 5) always ", " number A-COUNT " not met"
-    ∷ row (only 5) (is A-WHAT 1) "" (list EVENT) A-COUNT ""
-    ∷ row (only 5) (isnt A-WHAT 1) "" (list ELEMENT) A-COUNT ""
+    ∷ row (only 5) (is A-WHAT 1) "" (list events) A-COUNT ""
+    ∷ row (only 5) (isnt A-WHAT 1) "" (list elements) A-COUNT ""
     ∷ say (only 6) always "periodic report" ""
-    ∷ row (only 7) always "positive ack to " (word REQUEST) A-WHAT ""
+    ∷ row (only 7) always "positive ack to " (word requests) A-WHAT ""
     ∷ row (only 8) always "provider abort " number A-WHAT " ("
-    ∷ row (only 8) always "" (word ABORT) A-WHAT ")"
+    ∷ row (only 8) always "" (word abortReasons) A-WHAT ")"
     ∷ say reports (is A-WHAT 1) ", positive ack" ""
     ∷ row reports always ", " two A-LATITUDE " "
     ∷ row reports always "" two A-LATITUDE-MINUTES " "
     ∷ row reports always "" seconds A-LATITUDE-TENTHS " "
-    ∷ row reports always "" (word NORTH) A-SOUTH ""
+    ∷ row reports always "" (word norths) A-SOUTH ""
     ∷ row reports always ", " three A-LONGITUDE " "
     ∷ row reports always "" two A-LONGITUDE-MINUTES " "
     ∷ row reports always "" seconds A-LONGITUDE-TENTHS " "
-    ∷ row reports always "" (word EAST) A-WEST ""
+    ∷ row reports always "" (word easts) A-WEST ""
     ∷ row reports always ", level " tens A-LEVEL " ft"
     ∷ row reports always ", " number A-YEAR "-"
     ∷ row reports always "" two A-MONTH "-"
@@ -54,9 +54,9 @@ airRows =
     ∷ row reports always "" two A-MINUTES ""
     ∷ row reports (is A-HAS-SECONDS 1) ":" two A-SECONDS ""
     ∷ row reports always ", accuracy " number A-ACCURACY " ("
-    ∷ row reports always "" (word ACCURACY) A-ACCURACY ")"
-    ∷ row reports always ", multiple units " (word NO) A-UNITS ""
-    ∷ row reports always ", acas " (word NO) A-AVOIDANCE ""
+    ∷ row reports always "" (word accuracies) A-ACCURACY ")"
+    ∷ row reports always ", multiple units " (word truths) A-UNITS ""
+    ∷ row reports always ", acas " (word truths) A-AVOIDANCE ""
     ∷ row fullReports (has A-ELEMENTS ADDRESS) ", aircraft " octets A-ADDRESS ""
     ∷ row (only 2) (has A-ELEMENTS EMERGENCY-ADDRESS) ", aircraft " octets A-ADDRESS ""
     ∷ []

@@ -4,9 +4,9 @@ use mathlib.Core.List.{List, [], _∷_}
 use Prim.Native.Nat.{ℕ, _+_}
 use Rattle.pdu_parts.specs.Elements.{ADDRESS, PROFILE, GROUND-VECTOR, AIR-VECTOR, WEATHER, WAYPOINT-CHANGE, MERIT-CHANGE}
 use Rattle.host_numbers.specs.Places.{G-WHAT, G-SCALE, G-INTERVAL, G-ADDRESS, G-PROFILE, G-GROUND-VECTOR, G-AIR-VECTOR, G-WEATHER}
-use Rattle.pdu_words.specs.Names.{REQUEST, ABORT, SCALE}
+use Rattle.pdu_words.specs.Names.{abortReasons, scales}
 use Rattle.pdu_words.specs.Ways.{number, nth, word}
-use Rattle.pdu_words.specs.Rows.{only, every, always, has, isnt, Row, row, say, rowsText}
+use Rattle.pdu_words.specs.Rows.{only, every, always, has, is, isnt, Row, row, say, rowsText}
 
 -- the kinds that have an interval, and those that ask for elements of a report
 abbrev pub intervals : ℕ
@@ -19,16 +19,17 @@ unfoldable pub groundRows : List Row
 groundRows =
     say every always "ground: " ""
     ∷ say (only 0) always "cancel all contracts" ""
-    ∷ row (only 1) always "" (word (REQUEST + 3)) G-WHAT ""
+    ∷ say (only 1) (is G-WHAT 0) "cancel event contract" ""
+    ∷ say (only 1) (is G-WHAT 1) "cancel periodic contract" ""
     ∷ say (only 2) always "cancel emergency ack" ""
     ∷ say (only 3) always "demand contract" ""
     ∷ say (only 4) always "event contract" ""
     ∷ say (only 5) always "modify emergency contract" ""
     ∷ say (only 6) always "periodic contract" ""
     ∷ row (only 7) always "provider abort " number G-WHAT " ("
-    ∷ row (only 7) always "" (word ABORT) G-WHAT ")"
+    ∷ row (only 7) always "" (word abortReasons) G-WHAT ")"
     ∷ row intervals always " every " number G-INTERVAL " "
-    ∷ row intervals always "" (word SCALE) G-SCALE ""
+    ∷ row intervals always "" (word scales) G-SCALE ""
     ∷ say intervals (isnt G-INTERVAL 1) "s" ""
     ∷ say (only 4) (has G-WHAT WAYPOINT-CHANGE) ", " "waypoint change"
     ∷ say (only 4) (has G-WHAT MERIT-CHANGE) ", " "figure of merit change"

@@ -1,6 +1,7 @@
 -- Words by their numbers: 01's word where it has one, else 002's, and 003's where 002 has none.
 use mathlib.Core.List.{List, [], _∷_, _++_}
 use Prim.Native.Nat.{ℕ}
+use lib.ListN.{getD}
 use Rattle.text.specs.Letters.{ascii}
 
 -- requests (003, RequestType: 002 has no end forward), and the ground PDU that is none
@@ -46,22 +47,19 @@ abortReasons =
     ∷ []
 
 -- hemispheres
-abbrev pub hemispheres : List (List ℕ)
-hemispheres =
-    ascii "N" ∷ ascii "S" ∷ ascii "E" ∷ ascii "W"
-    ∷ []
+abbrev pub norths : List (List ℕ)
+norths = ascii "N" ∷ ascii "S" ∷ []
+
+abbrev pub easts : List (List ℕ)
+easts = ascii "E" ∷ ascii "W" ∷ []
 
 -- truth values
 abbrev pub truths : List (List ℕ)
-truths =
-    ascii "no" ∷ ascii "yes"
-    ∷ []
+truths = ascii "no" ∷ ascii "yes" ∷ []
 
 -- scales of an interval
 abbrev pub scales : List (List ℕ)
-scales =
-    ascii "second" ∷ ascii "minute"
-    ∷ []
+scales = ascii "second" ∷ ascii "minute" ∷ []
 
 -- labels and units
 abbrev pub labels : List (List ℕ)
@@ -72,40 +70,16 @@ labels =
     ∷ ascii ", positive ack" ∷ ascii ", level " ∷ ascii " ft" ∷ ascii ", accuracy " ∷ ascii ", multiple units " ∷ ascii ", acas " ∷ ascii ", aircraft "
     ∷ []
 
--- all of them, one after another, behind one that is empty
+-- the lists by their numbers in the code's rows: the first has one word, which is empty
+unfoldable pub lists : List (List (List ℕ))
+lists = ([] ∷ []) ∷ requests ∷ reasons ∷ events ∷ elements ∷ accuracies ∷ abortReasons ∷ norths ∷ easts ∷ truths ∷ scales ∷ []
+
+unfoldable pub listAt : ℕ → List (List ℕ)
+listAt n = getD lists n []
+
+-- all their words by their numbers there
 unfoldable pub names : List (List ℕ)
-names = [] ∷ (requests ++ reasons ++ events ++ elements ++ accuracies ++ abortReasons ++ hemispheres ++ truths ++ scales ++ labels)
-
--- where each list begins among them
-abbrev pub REQUEST : ℕ
-REQUEST = 1
-
-abbrev pub REASON : ℕ
-REASON = 10
-
-abbrev pub EVENT : ℕ
-EVENT = 14
-
-abbrev pub ELEMENT : ℕ
-ELEMENT = 26
-
-abbrev pub ACCURACY : ℕ
-ACCURACY = 34
-
-abbrev pub ABORT : ℕ
-ABORT = 42
-
-abbrev pub NORTH : ℕ
-NORTH = 50
-
-abbrev pub EAST : ℕ
-EAST = 52
-
-abbrev pub NO : ℕ
-NO = 54
-
-abbrev pub SCALE : ℕ
-SCALE = 56
+names = [] ∷ (requests ++ reasons ++ events ++ elements ++ accuracies ++ abortReasons ++ norths ++ easts ++ truths ++ scales ++ labels)
 
 -- why a reading was refused (01, "Refusal numbers", which start at 7)
 unfoldable pub refusalWords : List (List ℕ)

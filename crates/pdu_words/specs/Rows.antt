@@ -87,10 +87,10 @@ testOf t m = pick (eqb t 0) any (pick (eqb t 1) (bit (2 ^ m)) (pick (eqb t 2) (s
 unfoldable pub rowOf : ℕ → Row
 rowOf n =
     record {
-      kinds = n / 16 ^ 13;
-      guard = record { place = digits n 10 2; test = testOf (digits n 12 1) (digits n 9 1) };
-      label = wordAt names (digits n 7 2);
-      way = wayOf (digits n 6 1) (digits n 4 2);
+      kinds = n / 16 ^ 12;
+      guard = record { place = digits n 9 2; test = testOf (digits n 11 1) (digits n 8 1) };
+      label = wordAt names (digits n 6 2);
+      way = wayOf (digits n 5 1) (digits n 4 1);
       place = digits n 2 2;
       unit = wordAt names (n % 16 ^ 2);
     }

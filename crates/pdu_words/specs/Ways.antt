@@ -7,7 +7,7 @@ use lib.ListN.{take}
 use Rattle.text.specs.Letters.{ascii}
 use Rattle.text.specs.Text.{pick, both, glyphOf, hexText, decimal}
 use Rattle.text.specs.Words.{wordAt}
-use Rattle.pdu_words.specs.Names.{names}
+use Rattle.pdu_words.specs.Names.{listAt}
 
 pub data Way : Type 0 where
   nothing : Way
@@ -24,10 +24,11 @@ pub data Way : Type 0 where
   octets : Way
   -- as in " every 2nd report"
   nth : Way
-  -- the word at that number in the list that begins at a word
-  word : ℕ → Way
-  -- so many entries of the PDU's list, each a word of the list that begins at a word; at word 0, which is none, names of eight octets
-  list : ℕ → Way
+  -- the word of that number in a list
+  word : List (List ℕ) → Way
+  -- so many entries of the PDU's list: each a word; or names of eight octets
+  list : List (List ℕ) → Way
+  names : Way
 
 unfoldable pub twoDigits : ℕ → List ℕ
 twoDigits n = (48 + n / 10 % 10) ∷ (48 + n % 10) ∷ []
@@ -61,23 +62,21 @@ plain c = both (not (eqb c 44)) (both (not (eqb c 92)) (both (not (ltb c 33)) (l
 unfoldable pub letter : ℕ → List ℕ
 letter c = pick (plain c) (c ∷ []) (ascii "\\x" ++ (glyphOf (c / 16) ∷ glyphOf (c % 16) ∷ []))
 
--- octet i of a list: before it a colon, a comma, or nothing within a name
-unfoldable pub markText : ℕ → ℕ → List ℕ
-markText first i = pick (eqb i 0) (ascii ": ") (pick (both (eqb first 0) (not (eqb (i % 8) 0))) [] (ascii ", "))
+-- before an entry of a list: a colon or a comma
+unfoldable pub mark : ℕ → List ℕ
+mark i = pick (eqb i 0) (ascii ": ") (ascii ", ")
 
-unfoldable pub itemText : ℕ → ℕ → List ℕ
-itemText first c = pick (eqb first 0) (letter c) (wordAt names (first + c))
+-- octet i of a list: of names, or an entry
+unfoldable pub nameItem : ℕ → ℕ → List ℕ
+nameItem i c = pick (eqb (i % 8) 0) (mark i ++ letter c) (letter c)
 
-abbrev pub itemsText : ℕ → ℕ → List ℕ → List ℕ
-itemsText first i [] = []
-itemsText first i (c ∷ cs) = markText first i ++ (itemText first c ++ itemsText first (i + 1) cs)
+unfoldable pub entryItem : List (List ℕ) → ℕ → ℕ → List ℕ
+entryItem words i c = mark i ++ wordAt words c
 
--- how many octets a list of `count` entries has
-unfoldable pub octetsIn : ℕ → ℕ → ℕ
-octetsIn first count = pick (eqb first 0) (count * 8) count
-
-unfoldable pub listText : ℕ → ℕ → List ℕ → List ℕ
-listText first count items = itemsText first 0 (take (octetsIn first count) items)
+-- octets of a list, from number i on
+abbrev pub itemsText : (ℕ → ℕ → List ℕ) → ℕ → List ℕ → List ℕ
+itemsText item i [] = []
+itemsText item i (c ∷ cs) = item i c ++ itemsText item (i + 1) cs
 
 -- the number n in a way; `items` are the octets of the PDU's list
 unfoldable pub wayText : Way → ℕ → List ℕ → List ℕ
@@ -89,15 +88,26 @@ wayText seconds n items = secondsText n
 wayText tens n items = tensText n
 wayText octets n items = octetsText n
 wayText nth n items = nthText n
-wayText (word first) n items = wordAt names (first + n)
-wayText (list first) n items = listText first n items
+wayText (word words) n items = wordAt words n
+wayText (list words) n items = itemsText (entryItem words) 0 (take n items)
+wayText names n items = itemsText nameItem 0 (take (n * 8) items)
 
--- the ways by their numbers in the code's rows
+-- the ways and the lists by their numbers in the code's rows: list 0 stands for names
+unfoldable pub entriesOf : ℕ → Way
+entriesOf l = pick (eqb l 0) names (list (listAt l))
+
 unfoldable pub wayOf : ℕ → ℕ → Way
-wayOf w first =
+wayOf w l =
     pick (eqb w 1) number
     (pick (eqb w 2) two
     (pick (eqb w 3) three
     (pick (eqb w 4) seconds
     (pick (eqb w 5) tens
-    (pick (eqb w 6) octets (pick (eqb w 7) (word first) (pick (eqb w 8) nth (pick (eqb w 9) (list first) nothing))))))))
+    (pick (eqb w 6) octets (pick (eqb w 7) (word (listAt l)) (pick (eqb w 8) nth (pick (eqb w 9) (entriesOf l) nothing))))))))
+
+-- of the octets of a list, by its number too: how one is shown, and how many `count` entries have
+unfoldable pub itemOf : ℕ → ℕ → ℕ → List ℕ
+itemOf l i c = pick (eqb l 0) (nameItem i c) (entryItem (listAt l) i c)
+
+unfoldable pub octetsIn : ℕ → ℕ → ℕ
+octetsIn l count = pick (eqb l 0) (count * 8) count

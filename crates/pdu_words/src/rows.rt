@@ -1,6 +1,6 @@
 // The interpreter of rows. A row is a number, read by its hexadecimal digits from the left: 3 the kinds that show it, a bit for each; 1 the test of its guard, 2 the
-// place and 1 the number that the test takes; 2 the label; 1 the way in which a number is shown, 2 the first word of the list that the way takes, 2 the place of the number;
-// 2 the unit. Labels and units are words. specs/Rows.antt has the rows with names and texts, and a proof compares.
+// place and 1 the number that the test takes; 2 the label, a word; 1 the way in which a number is shown, 1 the list of words that the way takes, 2 the place of the number;
+// 2 the unit, a word. specs/AirRows.antt and specs/GroundRows.antt have the rows with names and texts, and the proofs compare.
 use crate::page::Page;
 use crate::ways::put_way;
 use crate::words::put_name;
@@ -35,13 +35,9 @@ fn does_pass(test: u64, m: u32, n: u32) -> bool
 fn is_chosen(row: u64, f: &[u32]) -> bool
     ensures { λ r. ⌜ r ≡ chosen (rowOf row) (now (f .entry)) ⌝ }
 {
-    if shows_kind(row / 4503599627370496, number(f, 0)) {
-        let n = number(f, (row / 1099511627776 % 256) as usize);
-        return does_pass(
-            row / 281474976710656 % 16,
-            (row / 68719476736 % 16) as u32,
-            n,
-        );
+    if shows_kind(row / 281474976710656, number(f, 0)) {
+        let n = number(f, (row / 68719476736 % 256) as usize);
+        return does_pass(row / 17592186044416 % 16, (row / 4294967296 % 16) as u32, n);
     }
     false
 }
@@ -50,13 +46,13 @@ fn put_row(out: &mut Page, at: usize, row: u64, f: &[u32], items: &[u8]) -> usiz
     ensures { λ r. ⌜ Writes (page (now (out .entry)) at) (rowText (rowOf row) (now (f .entry)) (now (items .entry))) (page (now (out .exit)) r) ⌝ }
 {
     if is_chosen(row, f) {
-        let a = put_name(out, at, (row / 268435456 % 256) as usize);
+        let a = put_name(out, at, (row / 16777216 % 256) as usize);
         let n = number(f, (row / 256 % 256) as usize);
         let a = put_way(
             out,
             a,
-            row / 16777216 % 16,
-            (row / 65536 % 256) as u8,
+            row / 1048576 % 16,
+            (row / 65536 % 16) as u8,
             n,
             items,
         );

@@ -1,7 +1,7 @@
 // The ways in which a number of a PDU is shown.
 use crate::lists::put_list;
 use crate::page::Page;
-use crate::words::put_name;
+use crate::words::put_listed;
 use text::put_byte;
 use text::put_decimal;
 use text::put_hex;
@@ -89,9 +89,9 @@ fn put_nth(out: &mut Page, at: usize, n: u32) -> usize
     put_text(out, a, b" report")
 }
 
-// A number in one of the ways, which are numbered as in specs/Ways.antt. `first` is the first word of a list, and `items` are the octets of a PDU's list.
-pub(crate) fn put_way(out: &mut Page, at: usize, way: u64, first: u8, n: u32, items: &[u8]) -> usize
-    ensures { λ r. ⌜ Writes (page (now (out .entry)) at) (wayText (wayOf way first) n (now (items .entry))) (page (now (out .exit)) r) ⌝ }
+// A number in one of the ways, which `wayOf` numbers. `list` is a list of words, and `items` are the octets of the PDU's list.
+pub(crate) fn put_way(out: &mut Page, at: usize, way: u64, list: u8, n: u32, items: &[u8]) -> usize
+    ensures { λ r. ⌜ Writes (page (now (out .entry)) at) (wayText (wayOf way list) n (now (items .entry))) (page (now (out .exit)) r) ⌝ }
 {
     match way {
         1 => put_decimal(out, at, n as u64),
@@ -100,9 +100,9 @@ pub(crate) fn put_way(out: &mut Page, at: usize, way: u64, first: u8, n: u32, it
         4 => put_seconds(out, at, n),
         5 => put_tens(out, at, n),
         6 => put_octets(out, at, n),
-        7 => put_name(out, at, first as usize + n as usize),
+        7 => put_listed(out, at, list, n),
         8 => put_nth(out, at, n),
-        9 => put_list(out, at, first, n, items),
+        9 => put_list(out, at, list, n, items),
         _ => at,
     }
 }

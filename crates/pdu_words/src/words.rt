@@ -1,9 +1,10 @@
 // Words by their numbers: 01's word where it has one, else 002's, and 003's where 002 has none.
 use crate::page::Page;
+use host_numbers::numbers::number;
 use text::words::put_word;
 ghost use Rattle.text.specs.Page.{page, Writes};
 ghost use Rattle.text.specs.Words.{wordAt};
-ghost use Rattle.pdu_words.specs.Names.{names, refusalWords};
+ghost use Rattle.pdu_words.specs.Names.{names, listAt, refusalWords};
 
 // Word n of `names`, which says what they are; nothing past the last.
 pub(crate) fn put_name(out: &mut Page, at: usize, n: usize) -> usize
@@ -121,6 +122,22 @@ pub(crate) fn put_name(out: &mut Page, at: usize, n: usize) -> usize
         ],
         n,
     )
+}
+
+// Where each list of words begins among them; it ends where the next one begins.
+const BEGINS: [u32; 12] = [0, 1, 10, 14, 26, 34, 42, 50, 52, 54, 56, 58];
+
+// Word n of a list; nothing past its last.
+pub(crate) fn put_listed(out: &mut Page, at: usize, list: u8, n: u32) -> usize
+    ensures { λ r. ⌜ Writes (page (now (out .entry)) at) (wordAt (listAt list) n) (page (now (out .exit)) r) ⌝ }
+{
+    let from = number(&BEGINS, list as usize);
+    let end = number(&BEGINS, list as usize + 1);
+    let k = from as usize + n as usize;
+    if k < end as usize {
+        return put_name(out, at, k);
+    }
+    at
 }
 
 // Why a reading was refused (01, "Refusal numbers", which start at 7).

@@ -23,11 +23,8 @@ put-tens-requires c κs = search needs
 put-octets-requires : tie.Need-put-octets-requires
 put-octets-requires c κs = search needs
 
-add-put-name : tie.Need-add-put-name
-add-put-name c = search needs
-
-put-name-requires : tie.Need-put-name-requires
-put-name-requires c κs = search needs
+put-listed-requires : tie.Need-put-listed-requires
+put-listed-requires c κs = search needs
 
 put-nth-requires : tie.Need-put-nth-requires
 put-nth-requires c κs = search needs
@@ -61,14 +58,14 @@ returns-6 c = rw (c .before .before .match .keys6) (c .put-octets .ensures)
 
 returns-7 : tie.Need-returns-7
 unfolding wayText wayOf
-returns-7 c = rw (c .before .before .match .keys7) (c .put-name .ensures)
+returns-7 c = rw (c .before .before .match .keys7) (c .put-listed .ensures)
 
 returns-8 : tie.Need-returns-8
 unfolding wayText wayOf
 returns-8 c = rw (c .before .before .match .keys8) (c .put-nth .ensures)
 
 returns-9 : tie.Need-returns-9
-unfolding wayText wayOf
+unfolding wayOf
 returns-9 c = rw (c .before .before .match .keys9) (c .put-list .ensures)
 
 returns-10 : tie.Need-returns-10
@@ -85,8 +82,7 @@ put-way-spec =
     put-seconds-requires
     put-tens-requires
     put-octets-requires
-    add-put-name
-    put-name-requires
+    put-listed-requires
     put-nth-requires
     put-list-requires
     returns
