@@ -1,2 +1,4 @@
 pub mod Loops
 pub mod ListedWords
+pub mod Spelled
+pub mod Whole

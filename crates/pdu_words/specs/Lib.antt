@@ -3,3 +3,4 @@ pub mod Ways
 pub mod Rows
 pub mod AirRows
 pub mod GroundRows
+pub mod LineText

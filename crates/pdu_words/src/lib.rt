@@ -5,7 +5,7 @@ mod ground;
 mod line;
 pub mod lines;
 mod lists;
-pub mod page;
+mod page;
 mod rows;
 mod tell;
 mod ways;

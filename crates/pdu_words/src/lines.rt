@@ -7,6 +7,9 @@ use text_lines::input::shown;
 use text_lines::input::start;
 use text_lines::input::tell_failed;
 use text_lines::input::write_out;
+ghost use lib.ListN.{take};
+ghost use Rattle.text.specs.Page.{page, Writes};
+ghost use Rattle.pdu_words.specs.LineText.{answerText};
 
 // What is said of a PDU.
 pub enum Task {
@@ -17,7 +20,9 @@ pub enum Task {
 }
 
 // The answer to a line of which `len` octets are kept, and its end.
-fn put_answer(task: Task, out: &mut Page, at: usize, len: usize, line: &[u8]) -> usize {
+fn put_answer(task: Task, out: &mut Page, at: usize, len: usize, line: &[u8]) -> usize
+    ensures { λ r. ⌜ Writes (page (now (out .entry)) at) (answerText task (take len (now (line .entry)))) (page (now (out .exit)) r) ⌝ }
+{
     let n = shown(len, line);
     let a = say_line(task, out, at, &line[..n]);
     put_byte(out, a, 10)
@@ -29,7 +34,8 @@ struct Done {
     failed: bool,
 }
 
-// Answers every line of the input. A proved loop has to end, so it counts down from a number that no run uses up.
+// Answers every line of the input. A proved loop has to end, so it counts down from a number that no run uses up. It states no result: which
+// octets a read brings, and that a write arrives, no contract can say.
 fn run(task: Task, chunk: &mut [u8; 65536], line: &mut [u8; 4097], out: &mut Page) -> Done {
     let mut at = 0;
     let mut input = start();
@@ -58,7 +64,7 @@ fn finish(d: Done, out: &Page) {
     }
 }
 
-// Answers the whole input. 4,097 octets of a line are kept: enough to see that it is too long.
+// Answers the whole input, and states no result, as `run`. 4,097 octets of a line are kept: enough to see that it is too long.
 pub fn answer(task: Task) {
     let mut chunk = io::large_buffer();
     let mut line = [0u8; 4097];

@@ -35,9 +35,13 @@ fn does_pass(test: u64, m: u32, n: u32) -> bool
 fn is_chosen(row: u64, f: &[u32]) -> bool
     ensures { λ r. ⌜ r ≡ chosen (rowOf row) (now (f .entry)) ⌝ }
 {
-    if shows_kind(row / 281474976710656, number(f, 0)) {
-        let n = number(f, (row / 68719476736 % 256) as usize);
-        return does_pass(row / 17592186044416 % 16, (row / 4294967296 % 16) as u32, n);
+    if shows_kind(row / 0x1000000000000, number(f, 0)) {
+        let n = number(f, (row / 0x1000000000 % 256) as usize);
+        return does_pass(
+            row / 0x100000000000 % 16,
+            (row / 0x100000000 % 16) as u32,
+            n,
+        );
     }
     false
 }
@@ -46,13 +50,13 @@ fn put_row(out: &mut Page, at: usize, row: u64, f: &[u32], items: &[u8]) -> usiz
     ensures { λ r. ⌜ Writes (page (now (out .entry)) at) (rowText (rowOf row) (now (f .entry)) (now (items .entry))) (page (now (out .exit)) r) ⌝ }
 {
     if is_chosen(row, f) {
-        let a = put_name(out, at, (row / 16777216 % 256) as usize);
-        let n = number(f, (row / 256 % 256) as usize);
+        let a = put_name(out, at, (row / 0x1000000 % 256) as usize);
+        let n = number(f, (row / 0x100 % 256) as usize);
         let a = put_way(
             out,
             a,
-            row / 1048576 % 16,
-            (row / 65536 % 16) as u8,
+            row / 0x100000 % 16,
+            (row / 0x10000 % 16) as u8,
             n,
             items,
         );

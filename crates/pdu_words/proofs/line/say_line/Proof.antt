@@ -1,5 +1,10 @@
-use mathlib.Core.Path.{sym}
+use borrow.Author.Tests.{lt-ltb, le-ltb}
+use mathlib.Core.Path.{refl, sym}
+use lib.ListN.{length}
+use denote.Ref.{now}
 use lib.Seq.{length-take-le}
+use Rattle.text.proofs.Laws.{part-all}
+use Rattle.pdu_words.specs.LineText.{lineText}
 use borrow.Author.Needs.{needs}
 use Rattle.pdu_words.proofs.line.say_line.Statement.{statement}
 use Rattle.pdu_words.proofs.line.say_line.Tie as tie
@@ -8,7 +13,8 @@ say-refused-requires : tie.Need-say-refused-requires
 say-refused-requires c κs = search needs
 
 returns : tie.Need-returns
-returns c = search needs
+unfolding lineText
+returns c = rw (lt-ltb _ _ (c .before .before .if1 .taken)) (c .say-refused .ensures)
 
 word-end-requires : tie.Need-word-end-requires
 word-end-requires c κs = search needs
@@ -29,7 +35,9 @@ say-tail-requires : tie.Need-say-tail-requires
 say-tail-requires c κs = search needs
 
 returns-2 : tie.Need-returns-2
-returns-2 c = search needs
+unfolding lineText
+returns-2 c =
+    let l = now (c .before .before .before .before .before .before .before .args .line) in rw (le-ltb _ _ (c .before .before .before .before .before .if1 .left), ← c .before .before .before .before .word-end .ensures .is, ← part-all l (c .before .before .before .before .word-end .result) (length l) refl) (c .say-tail .ensures)
 
 pub say-line-spec : {M : Type 1} → statement M
 say-line-spec =
