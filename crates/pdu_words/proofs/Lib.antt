@@ -2,3 +2,4 @@ pub mod Loops
 pub mod ListedWords
 pub mod Spelled
 pub mod Whole
+pub mod Short

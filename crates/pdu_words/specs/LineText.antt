@@ -43,10 +43,10 @@ writtenText (written.the-variants.Refused n) back = refusedText n
 unfoldable pub codedText : {A : Type 0} → Codec A → A → List ℕ
 codedText c a = writtenText (writePdu c a (replicate 128 0) .answer) (writePdu c a (replicate 128 0) .octets)
 
--- a PDU that reads, by the task
+-- a PDU that reads, by the task. A list has 128 octets
 unfoldable pub airText : Task → Air → Listed → List ℕ
 airText Code k l = codedText airC (record { kind = k; list = l })
-airText Tell k l = airWords (flatAir k (l .count)) (l .items)
+airText Tell k l = airWords (flatAir k (l .count)) (take 128 (l .items))
 
 unfoldable pub groundText : Task → Ground → List ℕ
 groundText Code g = codedText groundC g
@@ -64,12 +64,15 @@ unfoldable pub groundRead : Task → ground.GroundAnswer → List ℕ
 groundRead t (ground.the-variants.Good g) = groundText t g
 groundRead t (ground.the-variants.Refused n) = refusedLine t n
 
--- the word of a line, and the octets behind it
+-- the word of a line: 1 is `air`, 2 is `ground`
+unfoldable pub familyOf : List ℕ → ℕ
+familyOf word = foundFrom 0 word ([] ∷ ascii "air" ∷ ascii "ground" ∷ [])
+
+-- and the octets behind it
 unfoldable pub pduText : Task → List ℕ → List ℕ → List ℕ
 pduText t word octets =
-    let w = foundFrom 0 word ([] ∷ ascii "air" ∷ ascii "ground" ∷ []) in
-    pick (eqb w 1) (airRead t (airReading (readPdu airC octets)))
-    (pick (eqb w 2) (groundRead t (groundReading (readPdu groundC octets))) (refusedLine t SCRIPT-LINE))
+    pick (eqb (familyOf word) 1) (airRead t (airReading (readPdu airC octets)))
+    (pick (eqb (familyOf word) 2) (groundRead t (groundReading (readPdu groundC octets))) (refusedLine t SCRIPT-LINE))
 
 -- the octets as hexadecimal text
 unfoldable pub spelledText : Task → List ℕ → List ℕ → List ℕ

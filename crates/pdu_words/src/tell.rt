@@ -5,6 +5,7 @@ use host_numbers::uplink::flat_ground;
 use pdu::downlink::Air;
 use pdu::uplink::Ground;
 use pdu_parts::lists::Listed;
+ghost use lib.ListN.{take};
 ghost use Rattle.text.specs.Page.{page, Writes};
 ghost use Rattle.host_numbers.specs.DownlinkNumbers.{flatAir};
 ghost use Rattle.host_numbers.specs.UplinkNumbers.{flatGround};
@@ -12,7 +13,7 @@ ghost use Rattle.pdu_words.specs.AirRows.{airWords};
 ghost use Rattle.pdu_words.specs.GroundRows.{groundWords};
 
 pub(crate) fn put_air(out: &mut Page, at: usize, kind: Air, list: Listed) -> usize
-    ensures { λ r. ⌜ Writes (page (now (out .entry)) at) (airWords (flatAir kind (list .count)) (list .items)) (page (now (out .exit)) r) ⌝ }
+    ensures { λ r. ⌜ Writes (page (now (out .entry)) at) (airWords (flatAir kind (list .count)) (take 128 (list .items))) (page (now (out .exit)) r) ⌝ }
 {
     let f = flat_air(kind, list.count);
     let items = list.items;

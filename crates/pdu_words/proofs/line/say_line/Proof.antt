@@ -37,7 +37,8 @@ say-tail-requires c κs = search needs
 returns-2 : tie.Need-returns-2
 unfolding lineText
 returns-2 c =
-    let l = now (c .before .before .before .before .before .before .before .args .line) in rw (le-ltb _ _ (c .before .before .before .before .before .if1 .left), ← c .before .before .before .before .word-end .ensures .is, ← part-all l (c .before .before .before .before .word-end .result) (length l) refl) (c .say-tail .ensures)
+    let l = now (c .before .before .before .before .before .before .before .args .line) in
+    rw (le-ltb _ _ (c .before .before .before .before .before .if1 .left), ← c .before .before .before .before .word-end .ensures .is, ← part-all l (c .before .before .before .before .word-end .result) (length l) refl) (c .say-tail .ensures)
 
 pub say-line-spec : {M : Type 1} → statement M
 say-line-spec =

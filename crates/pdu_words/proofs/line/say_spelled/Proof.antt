@@ -46,17 +46,20 @@ say-refused-requires-2 c κs = search needs
 returns : tie.Need-returns
 unfolding heardText
 returns c =
-    let s = c .before .before .before .before .before .before .before .before .before .before .before .before .before .args in rw (← spelled-heard (s .task) (now (s .word)) (c .before .before .before .before .before .before .before .before .before .parse-hex .ensures) (c .before .before .before .before .before .before .before .before .before .before .before .before .before .pre) refl, c .before .before .before .before .before .before .h .given .1) (rw (c .before .before .before .shown .ensures .is, take-min _ _) at (c .say-pdu .ensures))
+    let s = c .before .before .before .before .before .before .before .before .before .before .before .before .before .args in
+    rw (← spelled-heard (s .task) (now (s .word)) (c .before .before .before .before .before .before .before .before .before .parse-hex .ensures) (c .before .before .before .before .before .before .before .before .before .before .before .before .before .pre) refl, c .before .before .before .before .before .before .h .given .1) (rw (c .before .before .before .shown .ensures .is, take-min _ _) at (c .say-pdu .ensures))
 
 returns-2 : tie.Need-returns-2
 unfolding heardText
 returns-2 c =
-    let s = c .before .before .before .before .before .before .before .before .before .args in rw (← spelled-heard (s .task) (now (s .word)) (c .before .before .before .before .before .parse-hex .ensures) (c .before .before .before .before .before .before .before .before .before .pre) refl, c .before .before .enum-told .given .1) (c .say-refused .ensures)
+    let s = c .before .before .before .before .before .before .before .before .before .args in
+    rw (← spelled-heard (s .task) (now (s .word)) (c .before .before .before .before .before .parse-hex .ensures) (c .before .before .before .before .before .before .before .before .before .pre) refl, c .before .before .enum-told .given .1) (c .say-refused .ensures)
 
 returns-3 : tie.Need-returns-3
 unfolding heardText
 returns-3 c =
-    let s = c .before .before .before .before .before .before .before .before .before .args in rw (← spelled-heard (s .task) (now (s .word)) (c .before .before .before .before .before .parse-hex .ensures) (c .before .before .before .before .before .before .before .before .before .pre) refl, c .before .before .enum-told2 .given .1) (c .say-refused2 .ensures)
+    let s = c .before .before .before .before .before .before .before .before .before .args in
+    rw (← spelled-heard (s .task) (now (s .word)) (c .before .before .before .before .before .parse-hex .ensures) (c .before .before .before .before .before .before .before .before .before .pre) refl, c .before .before .enum-told2 .given .1) (c .say-refused2 .ensures)
 
 pub say-spelled-spec : {M : Type 1} → statement M
 say-spelled-spec =

@@ -40,7 +40,8 @@ say-spelled-requires c κs = search needs
 returns-3 : tie.Need-returns-3
 unfolding tailText
 returns-3 c =
-    let l = now (c .before .before .before .before .before .before .before .args .tail) in rw (ne-eqb _ 0 (c .before .before .before .before .if1 .left), ne-eqb _ 1 (c .before .before .before .if2 .left), ← part-all l 1 (length l) refl) (c .say-spelled .ensures)
+    let l = now (c .before .before .before .before .before .before .before .args .tail) in
+    rw (ne-eqb _ 0 (c .before .before .before .before .if1 .left), ne-eqb _ 1 (c .before .before .before .if2 .left), ← part-all l 1 (length l) refl) (c .say-spelled .ensures)
 
 pub say-tail-spec : {M : Type 1} → statement M
 say-tail-spec =

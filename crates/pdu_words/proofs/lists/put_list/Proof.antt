@@ -24,7 +24,8 @@ least-requires c κs = search needs
 
 loop-holds : tie.Need-loop-holds Inv-loop μ-loop
 loop-holds c =
-    let s = c .before .before .before .args in (omega arith, rw (entries-are (s .list) (s .count) (now (s .items))))
+    let s = c .before .before .before .args in
+    (omega arith, rw (entries-are (s .list) (s .count) (now (s .items))))
 
 shared-slice-read-put-item : tie.Need-shared-slice-read-put-item Inv-loop μ-loop
 shared-slice-read-put-item c = search needs
@@ -40,11 +41,19 @@ loop-less c = search needs
 
 loop-again : tie.Need-loop-again Inv-loop μ-loop
 loop-again c =
-    let k = c .before .before .before .before .loop in let s = c .before .before .before .before .before .before .before .before .args in let are = c .before .before .before .before .before .least .ensures .is in let e = c .before .before .before .before .before .before .octets-in .ensures in (omega arith, item-step (itemOf (s .list)) (octetsIn (s .list) (s .count)) (c .before .before .before .before .before .least .result) (k .i) (now (s .items)) (rw (← e) are) (omega (arith, c .before .before .before .loop-test .taken)) (c .put-item .ensures) ∙ k .inv .1)
+    let k = c .before .before .before .before .loop in
+    let s = c .before .before .before .before .before .before .before .before .args in
+    let are = c .before .before .before .before .before .least .ensures .is in
+    let e = c .before .before .before .before .before .before .octets-in .ensures in
+    (omega arith, item-step (itemOf (s .list)) (octetsIn (s .list) (s .count)) (c .before .before .before .before .before .least .result) (k .i) (now (s .items)) (rw (← e) are) (omega (arith, c .before .before .before .loop-test .taken)) (c .put-item .ensures) ∙ k .inv .1)
 
 returns : tie.Need-returns Inv-loop μ-loop
 returns c =
-    let k = c .before .loop in let s = c .before .before .before .before .before .args in let are = c .before .before .least .ensures .is in let e = c .before .before .before .octets-in .ensures in record { is = sym (item-end (itemOf (s .list)) (octetsIn (s .list) (s .count)) (c .before .before .least .result) (k .i) (now (s .items)) (rw (← e) are) (page (k .out) (k .a)) (omega (arith, c .loop-test .left))) ∙ k .inv .1 }
+    let k = c .before .loop in
+    let s = c .before .before .before .before .before .args in
+    let are = c .before .before .least .ensures .is in
+    let e = c .before .before .before .octets-in .ensures in
+    record { is = sym (item-end (itemOf (s .list)) (octetsIn (s .list) (s .count)) (c .before .before .least .result) (k .i) (now (s .items)) (rw (← e) are) (page (k .out) (k .a)) (omega (arith, c .loop-test .left))) ∙ k .inv .1 }
 
 pub put-list-spec : {M : Type 1} → statement M
 put-list-spec =

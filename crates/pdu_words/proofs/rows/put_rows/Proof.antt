@@ -36,11 +36,15 @@ loop-less c = search needs
 
 loop-again : tie.Need-loop-again Inv-loop μ-loop
 loop-again c =
-    let k = c .before .before .before .before .loop in let s = c .before .before .before .before .before .before .before .before .args in (omega arith, row-step (now (s .table)) (now (s .f)) (now (s .items)) (k .i) (omega (arith, c .before .before .before .loop-test .taken)) (c .put-row .ensures) ∙ k .inv .1)
+    let k = c .before .before .before .before .loop in
+    let s = c .before .before .before .before .before .before .before .before .args in
+    (omega arith, row-step (now (s .table)) (now (s .f)) (now (s .items)) (k .i) (omega (arith, c .before .before .before .loop-test .taken)) (c .put-row .ensures) ∙ k .inv .1)
 
 returns : tie.Need-returns Inv-loop μ-loop
 returns c =
-    let k = c .before .loop in let s = c .before .before .before .before .before .args in record { is = sym (row-end (now (s .table)) (now (s .f)) (now (s .items)) (k .i) (page (k .out) (k .a)) (omega (arith, c .loop-test .left))) ∙ k .inv .1 }
+    let k = c .before .loop in
+    let s = c .before .before .before .before .before .args in
+    record { is = sym (row-end (now (s .table)) (now (s .f)) (now (s .items)) (k .i) (page (k .out) (k .a)) (omega (arith, c .loop-test .left))) ∙ k .inv .1 }
 
 pub put-rows-spec : {M : Type 1} → statement M
 put-rows-spec =

@@ -1,3 +1,7 @@
+use mathlib.Core.Path.{_≡_}
+use native.Mathlib.Omega.{arith}
+use lib.ListN.{length}
+use lib.Seq.{take-all}
 use borrow.Author.Needs.{needs}
 use Rattle.pdu_words.proofs.tell.put_air.Statement.{statement}
 use Rattle.pdu_words.proofs.tell.put_air.Tie as tie
@@ -14,8 +18,13 @@ slice-aggregate-put-air-2 c = search needs
 put-air-requires : tie.Need-put-air-requires
 put-air-requires c κs = search needs
 
+full : (c : tie.Start) → length (c .args .list .items) ≡ 128
+full c = search needs
+
 returns : tie.Need-returns
-returns c = rw (← c .before .before .before .before .before .flat-air .ensures) (c .put-air .ensures)
+returns c =
+    let s = c .before .before .before .before .before .before in
+    rw (← c .before .before .before .before .before .flat-air .ensures, take-all 128 (s .args .list .items) (omega (arith, full s))) (c .put-air .ensures)
 
 pub put-air-spec : {M : Type 1} → statement M
 put-air-spec =

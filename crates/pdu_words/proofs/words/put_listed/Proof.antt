@@ -32,11 +32,13 @@ put-name-requires c κs = search needs
 
 returns : tie.Need-returns
 returns c =
-    let s = c .before .before .before .before .before .before .before .args in rw (← word-in (s .list) (s .n) (c .before .before .before .before .before .number .result) (c .before .before .before .number2 .result) (c .before .before .before .before .before .number .ensures) (c .before .before .before .number2 .ensures) (c .before .before .if1 .taken)) (c .put-name .ensures)
+    let s = c .before .before .before .before .before .before .before .args in
+    rw (← word-in (s .list) (s .n) (c .before .before .before .before .before .number .result) (c .before .before .before .number2 .result) (c .before .before .before .before .before .number .ensures) (c .before .before .before .number2 .ensures) (c .before .before .if1 .taken)) (c .put-name .ensures)
 
 returns-2 : tie.Need-returns-2
 returns-2 c =
-    let s = c .before .before .before .before .before .args in word-past (s .list) (s .n) (c .before .before .before .number .result) (c .before .number2 .result) (c .before .before .before .number .ensures) (c .before .number2 .ensures) (c .if1 .left)
+    let s = c .before .before .before .before .before .args in
+    word-past (s .list) (s .n) (c .before .before .before .number .result) (c .before .number2 .result) (c .before .before .before .number .ensures) (c .before .number2 .ensures) (c .if1 .left)
 
 pub put-listed-spec : {M : Type 1} → statement M
 put-listed-spec =
