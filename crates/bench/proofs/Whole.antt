@@ -2,17 +2,16 @@
 use mathlib.Core.Path.{_≡_, refl, ap, _∙_}
 use mathlib.Core.Bool.{true, false}
 use mathlib.Core.List.{List, [], _∷_, _++_}
-use mathlib.Core.Logic.{⊎-elim}
-use Prim.Native.Nat.{ℕ, _≤_, _<_}
+use Prim.Native.Nat.{ℕ}
 use native.Mathlib.Omega.{arith}
-use borrow.Author.Tests.{lt-ltb}
-use lib.ListN.{length, take, length-take}
-use lib.Seq.{take-all}
-use Rattle.text.proofs.Laws.{le-or-lt}
+use lib.ListN.{take, drop}
+use Rattle.text.specs.Text.{wordEnd}
+use Rattle.text.proofs.Lengths.{kept-enough}
+use Rattle.bench_line.specs.Words.{wordOf}
 use Rattle.text_lines.specs.Lines.{linesOf}
 use Rattle.text_lines.specs.Pulls.{left, Pulled-all}
 use Rattle.text_lines.proofs.Pieces.{fronts, lines-pieces}
-use Rattle.bench.specs.Replies.{Reply, lineReply}
+use Rattle.bench.specs.Replies.{Reply, refusedReply, wordReply, lineReply}
 use Rattle.bench.specs.declared.reply.Setup.{Setup}
 use Rattle.bench.specs.declared.player.Played.{Played}
 use Rattle.bench.specs.Playing.{countedOn, boxOn, Plays}
@@ -20,14 +19,7 @@ use Rattle.bench.specs.Trace.{begun, bumped, numbered, answersFrom, trac
 
 reply-cut : (b : Setup) (l : List ℕ) → lineReply b (take 4097 l) ≡ lineReply b l
 unfolding lineReply
-reply-cut b l =
-    ⊎-elim
-    (λ (short : length l ≤ 4097). rw (take-all 4097 l short))
-    (λ (long : 4097 < length l).
-    let c : 4096 < length (take 4097 l) = rw (length-take 4097 l) (omega arith) in
-    let d : 4096 < length l = omega arith in
-    rw (lt-ltb _ _ c, lt-ltb _ _ d))
-    (le-or-lt (length l) 4097)
+reply-cut b l = kept-enough (refusedReply b 17) (λ k. wordReply b (wordOf (take (wordEnd k) k)) (drop (wordEnd k) k)) l
 
 -- 4,097 octets of a line are enough: they are answered as the whole line is, however long
 pub says-whole-line : (n : ℕ) (b : Setup) (l : List ℕ) → numbered n b (take 4097 l) ≡ numbered n b l

@@ -1,6 +1,5 @@
 -- The text of an answer is never long. Assumes nothing.
-use mathlib.Core.Path.{_≡_, refl}
-use mathlib.Core.Bool.{Bool, true, false}
+use mathlib.Core.Path.{_≡_}
 use mathlib.Core.List.{List, [], _∷_, _++_}
 use Prim.Native.Nat.{ℕ, _+_, _-_, _*_, _≤_, _<_}
 use mathlib.Core.Logic.{⊎-elim}
@@ -9,26 +8,18 @@ use native.Mathlib.Omega.{arith}
 use lib.Dec.{eqb, ltb, lit≤}
 use lib.ListN.{length, take, length-append, length-take, List·getD-eq-default}
 use Rattle.text.specs.Letters.{ascii}
-use Rattle.text.specs.Text.{pick, hexText, decimal}
-use Rattle.text.specs.Words.{wordAt, refusedText}
+use Rattle.text.specs.Text.{decimal}
+use Rattle.text.specs.Words.{wordAt}
 use Rattle.text.proofs.Laws.{le-or-lt, decimal-length}
+use Rattle.text.proofs.Lengths.{hex-length, refused-length, of-two}
 use Rattle.ground_answer.specs.declared.answer.Said.{Said}
 use Rattle.bench_line.specs.AnswerText.{spaced, timerNames, timerText, timerEntry, entryText, restOf, entriesOf, answerText}
 use Rattle.bench_line.proofs.Tables.{each-at}
-
-hex-length : (os : List ℕ) → length (hexText os) ≡ length os + length os
-hex-length [] = refl
-hex-length (o ∷ os) = omega (arith, hex-length os)
 
 spaced-length : (s : List ℕ) → length s ≤ 2048 → length (spaced s) ≤ 4097
 unfolding spaced
 spaced-length [] h = omega arith
 spaced-length (o ∷ os) h = omega (arith, hex-length (o ∷ os))
-
--- one of two texts
-of-two : (b : Bool) (n : ℕ) (x y : List ℕ) → length x ≤ n → length y ≤ n → length (pick b x y) ≤ n
-of-two true n x y p q = p
-of-two false n x y p q = q
 
 behind : (t s : List ℕ) (n : ℕ) → length t ≤ 12 → length s ≤ n → length (t ++ s) ≤ 12 + n
 behind t s n p q = omega (arith, length-append t s, p, q)
@@ -65,10 +56,6 @@ entries-length (c ∷ cs) octets n reason came p q =
     let a = entry-length c (take n octets) reason came (omega (arith, length-take n octets, min-le-right n (length octets), p)) q in
     let b = entries-length cs octets (restOf c n) reason came p q in
     omega (arith, length-append (entryText c (take n octets) reason came) (entriesOf cs octets (restOf c n) reason came), a, b)
-
-pub refused-length : (n : ℕ) → length (refusedText n) ≤ 28
-unfolding refusedText
-refused-length n = omega (arith, length-append (ascii "refused ") (decimal n), decimal-length n)
 
 pub said-length : (said : Said) (came : List ℕ) → length (said .acts .list) ≡ 8 → length (said .sent .octets) ≡ 8 → length came ≤ 2048
     → length (answerText said came) ≤ 33000

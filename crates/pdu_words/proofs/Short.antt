@@ -2,16 +2,17 @@
 use mathlib.Core.Path.{_≡_, refl}
 use mathlib.Core.Bool.{Bool, true, false}
 use mathlib.Core.List.{List, [], _∷_, _++_}
-use Prim.Native.Nat.{ℕ, zero, suc, _+_, _-_, _*_, _/_, _%_, _≤_}
+use Prim.Native.Nat.{ℕ, zero, suc, _+_, _-_, _*_, _%_, _≤_}
 use native.Mathlib.Nat.{le-trans, min-le-left, min-le-right, mul-le-mul-right, suc-mul}
 use native.Mathlib.Omega.{arith}
 use lib.Dec.{eqb, ltb, leb, leb→le, lit≤}
 use lib.ListN.{length, getD, take, drop, replicate, length-append, length-take}
 use Rattle.text.specs.Letters.{ascii}
-use Rattle.text.specs.Text.{pick, hexGood, octetsOf, hexText, wordEnd, decimal}
-use Rattle.text.specs.Words.{wordAt, foundFrom, refusedText}
+use Rattle.text.specs.Text.{hexGood, octetsOf, hexText, wordEnd, decimal}
+use Rattle.text.specs.Words.{wordAt, refusedText}
 use Rattle.text.specs.Page.{page, Writes}
 use Rattle.text.proofs.Laws.{decimal-length}
+use Rattle.text.proofs.Lengths.{hex-length, refused-length, of-two}
 use Rattle.text.proofs.Pages.{stands}
 use Rattle.per.specs.Codec.{Codec, first, unless}
 use Rattle.per.specs.Pdu.{readPdu, encode}
@@ -34,11 +35,6 @@ use Rattle.pdu_words.specs.GroundRows.{groundRows, groundWords}
 use Rattle.pdu_words.specs.LineText.{refusedLine, writtenText, codedText, airText, groundText, airAnswer, airRead, groundRead, familyOf, pduText, spelledText, tailText, lineText, answerText}
 use Rattle.pdu_words.specs.declared.lines.Task.{Task}
 use Rattle.pdu_words.specs.declared.lines.Task.the-variants.{Code, Tell}
-
--- one of two texts
-of-two : (b : Bool) (n : ℕ) (x y : List ℕ) → length x ≤ n → length y ≤ n → length (pick b x y) ≤ n
-of-two true n x y p q = p
-of-two false n x y p q = q
 
 -- a word has at most the letters of its list
 letters : List (List ℕ) → ℕ
@@ -157,10 +153,6 @@ unfolding groundWords groundRows rowsMost rowMost wayMost letters
 ground-length f = le-trans (rows-length groundRows f [] (lit≤ tt)) (lit≤ tt)
 
 -- refusals
-refused-length : (n : ℕ) → length (refusedText n) ≤ 28
-unfolding refusedText
-refused-length n = omega (arith, length-append (ascii "refused ") (decimal n), decimal-length n)
-
 reason-length : (n : ℕ) → length (wordAt refusalWords n) ≤ 1000
 unfolding letters refusalWords
 reason-length n = le-trans (word-length refusalWords n) (lit≤ tt)
@@ -171,10 +163,6 @@ line-refused Code n = omega (arith, refused-length n)
 line-refused Tell n = omega (arith, length-append (refusedText n) (wordAt refusalWords n), refused-length n, reason-length n)
 
 -- a PDU that is written back
-hex-length : (os : List ℕ) → length (hexText os) ≡ length os + length os
-hex-length [] = refl
-hex-length (o ∷ os) = omega (arith, hex-length os)
-
 written-length : (k : ℕ) (pdu o : List ℕ) → (k ≡ 0 → length pdu ≤ 128) → length (writtenText (delivered k pdu o .answer) (delivered k pdu o .octets)) ≤ 50000
 unfolding writtenText
 written-length zero pdu o h =

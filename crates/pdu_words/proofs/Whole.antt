@@ -2,34 +2,22 @@
 use mathlib.Core.Path.{_≡_, refl, ap, _∙_}
 use mathlib.Core.Bool.{true}
 use mathlib.Core.List.{List, [], _∷_, _++_}
-use mathlib.Core.Logic.{⊎-elim}
-use Prim.Native.Nat.{ℕ, _≤_, _<_}
+use Prim.Native.Nat.{ℕ}
 use native.Mathlib.Omega.{arith}
-use borrow.Author.Tests.{lt-ltb}
-use lib.ListN.{length, take, length-take}
-use lib.Seq.{take-all}
-use Rattle.text.proofs.Laws.{le-or-lt}
+use lib.ListN.{take, drop}
+use Rattle.text.specs.Text.{wordEnd}
+use Rattle.text.proofs.Lengths.{kept-enough}
 use Rattle.text_lines.specs.Lines.{linesOf}
 use Rattle.text_lines.specs.Pulls.{left}
 use Rattle.text_lines.proofs.Pieces.{fronts, Pulled-all, lines-pieces}
-use Rattle.pdu_words.specs.LineText.{lineText, answerText, answersOf}
+use Rattle.pdu_words.specs.LineText.{refusedLine, tailText, lineText, answerText, answersOf}
 use Rattle.pdu_words.specs.declared.lines.Task.{Task}
-
-line-cut : (t : Task) (l : List ℕ) → lineText t (take 4097 l) ≡ lineText t l
-unfolding lineText
-line-cut t l =
-    ⊎-elim
-    (λ (short : length l ≤ 4097). rw (take-all 4097 l short))
-    (λ (long : 4097 < length l).
-    let c : 4096 < length (take 4097 l) = rw (length-take 4097 l) (omega arith) in
-    let d : 4096 < length l = omega arith in
-    rw (lt-ltb _ _ c, lt-ltb _ _ d))
-    (le-or-lt (length l) 4097)
 
 -- what is kept of a line is answered as the whole line is, however long
 pub answers-whole-line : (t : Task) (l : List ℕ) → answerText t (take 4097 l) ≡ answerText t l
-unfolding answerText
-answers-whole-line t l = rw (line-cut t l)
+unfolding answerText lineText
+answers-whole-line t l =
+    ap (λ (r : List ℕ). r ++ (10 ∷ [])) (kept-enough (refusedLine t 17) (λ k. tailText t (take (wordEnd k) k) (drop (wordEnd k) k)) l)
 
 answers-whole-lines : (t : Task) (ls : List (List ℕ)) → answersOf t (fronts 4097 ls) ≡ answersOf t ls
 answers-whole-lines t [] = refl

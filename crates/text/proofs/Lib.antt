@@ -3,3 +3,4 @@ pub mod Pages
 pub mod Trip
 pub mod Counting
 pub mod Tables
+pub mod Lengths

@@ -1,6 +1,6 @@
 use mathlib.Core.Path.{refl}
 use Prim.Native.Nat.{_-_, _≤_}
-use Rattle.bench_line.proofs.Short.{refused-length}
+use Rattle.text.proofs.Lengths.{refused-length}
 use native.Mathlib.Nat.{le-trans}
 use lib.Dec.{lit≤}
 use borrow.Author.Needs.{needs}
