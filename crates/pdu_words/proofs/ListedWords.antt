@@ -1,15 +1,14 @@
 -- The words of the lists, by their numbers among all words. Assumes nothing.
-use mathlib.Core.Path.{_≡_, refl, _∙_, ap}
+use mathlib.Core.Path.{_≡_, refl}
 use mathlib.Core.List.{List, [], _∷_}
-use mathlib.Core.Logic.{⊎-elim}
 use Prim.Native.Nat.{ℕ, zero, suc, _+_, _-_, _≤_, _<_}
 use native.Mathlib.Numerals.{add-one}
 use native.Mathlib.Omega.{arith}
 use lib.ListN.{length, getD, take, drop, length-take, List·getD-eq-default}
 use lib.Seq.{getD-take, getD-drop}
-use Rattle.text.specs.Page.{Page, page, Writes}
+use Rattle.text.specs.Page.{Page, Writes}
 use Rattle.text.specs.Words.{wordAt}
-use Rattle.pdu_words.specs.Names.{lists, listAt, names}
+use Rattle.pdu_words.specs.Names.{lists, listAt, vocabulary}
 
 -- lists, each the part of all words from where it begins up to where the next one does
 cut : List (List ℕ) → List ℕ → List (List (List ℕ))
@@ -28,22 +27,22 @@ cut-is words (b ∷ e ∷ bs) (suc l) = cut-is words (e ∷ bs) l
 abbrev pub begins : List ℕ
 begins = 0 ∷ 1 ∷ 10 ∷ 14 ∷ 26 ∷ 34 ∷ 42 ∷ 50 ∷ 52 ∷ 54 ∷ 56 ∷ 58 ∷ []
 
-lists-cut : cut names begins ≡ lists
-unfolding cut names lists
+lists-cut : cut vocabulary begins ≡ lists
+unfolding cut vocabulary lists
 lists-cut = refl
 
-list-is : (l : ℕ) → listAt l ≡ take (getD begins (l + 1) 0 - getD begins l 0) (drop (getD begins l 0) names)
+list-is : (l : ℕ) → listAt l ≡ take (getD begins (l + 1) 0 - getD begins l 0) (drop (getD begins l 0) vocabulary)
 unfolding listAt
-list-is l = rw (← lists-cut, add-one l) (cut-is names begins l)
+list-is l = rw (← lists-cut, add-one l) (cut-is vocabulary begins l)
 
 -- word n of list l, which begins at word a and ends before word e
 module _ (l n a e : ℕ) (from : a ≡ getD begins l 0) (to : e ≡ getD begins (l + 1) 0) where
-  pub word-in : a + n < e → wordAt names (a + n) ≡ wordAt (listAt l) n
+  pub word-in : a + n < e → wordAt vocabulary (a + n) ≡ wordAt (listAt l) n
   word-in h =
       let g : n < e - a = omega arith in
-      rw (list-is l, ← from, ← to, getD-take (e - a) (drop a names) n [] g, getD-drop)
+      rw (list-is l, ← from, ← to, getD-take (e - a) (drop a vocabulary) n [] g, getD-drop)
 
   pub word-past : {p : Page} → e ≤ a + n → Writes p (wordAt (listAt l) n) p
   word-past h =
-      let g : length (take (e - a) (drop a names)) ≤ n = omega (arith, length-take (e - a) (drop a names)) in
-      rw (list-is l, ← from, ← to, List·getD-eq-default (take (e - a) (drop a names)) [] g) (record { is = refl })
+      let g : length (take (e - a) (drop a vocabulary)) ≤ n = omega (arith, length-take (e - a) (drop a vocabulary)) in
+      rw (list-is l, ← from, ← to, List·getD-eq-default (take (e - a) (drop a vocabulary)) [] g) (record { is = refl })

@@ -11,10 +11,11 @@ use lib.Seq.{getD-take}
 use Rattle.text.specs.Page.{Page, wrote, Writes}
 use Rattle.text.proofs.Laws.{next}
 use Rattle.text.proofs.Pages.{wrote-append}
-use Rattle.pdu_words.specs.Ways.{list, names, nameItem, entryItem, itemsText, wayText, entriesOf, itemOf, octetsIn}
+use Rattle.pdu_words.specs.Ways.{list, names, nameItem, entryItem, itemsText, wayText}
+use Rattle.pdu_words.specs.CodeRows.{entriesOf, itemOf, octetsIn, rowOf, rowsOf}
 use Rattle.pdu_words.specs.Names.{listAt}
 use Rattle.text.specs.Text.{pick}
-use Rattle.pdu_words.specs.Rows.{rowText, rowsText, rowOf, rowsOf}
+use Rattle.pdu_words.specs.Rows.{rowText, rowsText}
 
 -- octet i of the first k, of which n are there
 module _ (item : ℕ → ℕ → List ℕ) (k n i : ℕ) (items : List ℕ) (are : n ≡ min k (length items)) where

@@ -78,8 +78,8 @@ unfoldable pub listAt : ℕ → List (List ℕ)
 listAt n = getD lists n []
 
 -- all their words by their numbers there
-unfoldable pub names : List (List ℕ)
-names = [] ∷ (requests ++ reasons ++ events ++ elements ++ accuracies ++ abortReasons ++ norths ++ easts ++ truths ++ scales ++ labels)
+unfoldable pub vocabulary : List (List ℕ)
+vocabulary = [] ∷ (requests ++ reasons ++ events ++ elements ++ accuracies ++ abortReasons ++ norths ++ easts ++ truths ++ scales ++ labels)
 
 -- why a reading was refused (01, "Refusal numbers", which start at 7)
 unfoldable pub refusalWords : List (List ℕ)

@@ -1,15 +1,14 @@
 -- A PDU in words is rows, one after another: a row is shown for some kinds of PDU and under a guard; it is a label, a number in one of the ways, and a unit.
+-- docs/DECISIONS.md, T1 to T14, has what was chosen where the drafts are silent.
 use mathlib.Core.Bool.{Bool, true, false, not}
 use mathlib.Core.List.{List, [], _∷_, _++_}
-use Prim.Native.Nat.{ℕ, _+_, _/_, _%_, _^_}
+use Prim.Native.Nat.{ℕ, _/_, _%_, _^_}
 use Prim.Native.String.{String}
 use lib.Dec.{eqb, ltb}
 use lib.ListN.{getD}
 use Rattle.text.specs.Letters.{ascii}
 use Rattle.text.specs.Text.{pick, both}
-use Rattle.text.specs.Words.{wordAt}
-use Rattle.pdu_words.specs.Names.{names}
-use Rattle.pdu_words.specs.Ways.{Way, nothing, wayText, wayOf}
+use Rattle.pdu_words.specs.Ways.{Way, nothing, wayText}
 
 -- kinds of PDU, a bit for each
 abbrev pub only : ℕ → ℕ
@@ -76,25 +75,3 @@ rowText r f items = pick (chosen r f) (r .label ++ (wayText (r .way) (getD f (r 
 abbrev pub rowsText : List Row → List ℕ → List ℕ → List ℕ
 rowsText [] f items = []
 rowsText (r ∷ rs) f items = rowText r f items ++ rowsText rs f items
-
--- the rows of the code, which are numbers: digits of one in hexadecimal, before its last k
-abbrev pub digits : ℕ → ℕ → ℕ → ℕ
-digits n k many = n / 16 ^ k % 16 ^ many
-
-unfoldable pub testOf : ℕ → ℕ → Test
-testOf t m = pick (eqb t 0) any (pick (eqb t 1) (bit (2 ^ m)) (pick (eqb t 2) (same m) (other m)))
-
-unfoldable pub rowOf : ℕ → Row
-rowOf n =
-    record {
-      kinds = n / 16 ^ 12;
-      guard = record { place = digits n 9 2; test = testOf (digits n 11 1) (digits n 8 1) };
-      label = wordAt names (digits n 6 2);
-      way = wayOf (digits n 5 1) (digits n 4 1);
-      place = digits n 2 2;
-      unit = wordAt names (n % 16 ^ 2);
-    }
-
-abbrev pub rowsOf : List ℕ → List Row
-rowsOf [] = []
-rowsOf (n ∷ ns) = rowOf n ∷ rowsOf ns

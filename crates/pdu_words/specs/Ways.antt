@@ -1,13 +1,12 @@
 -- The ways in which a number of a PDU is shown to a person.
 use mathlib.Core.Bool.{Bool, not}
 use mathlib.Core.List.{List, [], _∷_, _++_}
-use Prim.Native.Nat.{ℕ, zero, suc, _+_, _-_, _*_, _/_, _%_}
+use Prim.Native.Nat.{ℕ, _+_, _-_, _*_, _/_, _%_}
 use lib.Dec.{eqb, ltb}
 use lib.ListN.{take}
 use Rattle.text.specs.Letters.{ascii}
 use Rattle.text.specs.Text.{pick, both, glyphOf, hexText, decimal}
 use Rattle.text.specs.Words.{wordAt}
-use Rattle.pdu_words.specs.Names.{listAt}
 
 pub data Way : Type 0 where
   nothing : Way
@@ -91,23 +90,3 @@ wayText nth n items = nthText n
 wayText (word words) n items = wordAt words n
 wayText (list words) n items = itemsText (entryItem words) 0 (take n items)
 wayText names n items = itemsText nameItem 0 (take (n * 8) items)
-
--- the ways and the lists by their numbers in the code's rows: list 0 stands for names
-unfoldable pub entriesOf : ℕ → Way
-entriesOf l = pick (eqb l 0) names (list (listAt l))
-
-unfoldable pub wayOf : ℕ → ℕ → Way
-wayOf w l =
-    pick (eqb w 1) number
-    (pick (eqb w 2) two
-    (pick (eqb w 3) three
-    (pick (eqb w 4) seconds
-    (pick (eqb w 5) tens
-    (pick (eqb w 6) octets (pick (eqb w 7) (word (listAt l)) (pick (eqb w 8) nth (pick (eqb w 9) (entriesOf l) nothing))))))))
-
--- of the octets of a list, by its number too: how one is shown, and how many `count` entries have
-unfoldable pub itemOf : ℕ → ℕ → ℕ → List ℕ
-itemOf l i c = pick (eqb l 0) (nameItem i c) (entryItem (listAt l) i c)
-
-unfoldable pub octetsIn : ℕ → ℕ → ℕ
-octetsIn l count = pick (eqb l 0) (count * 8) count

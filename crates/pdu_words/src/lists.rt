@@ -7,7 +7,8 @@ use text::put_octet;
 use text::put_text;
 ghost use mathlib.Core.Path.{_≡_};
 ghost use Rattle.text.specs.Page.{page, Writes};
-ghost use Rattle.pdu_words.specs.Ways.{plain, letter, mark, nameItem, itemOf, octetsIn, entriesOf, wayText};
+ghost use Rattle.pdu_words.specs.Ways.{plain, letter, mark, nameItem, wayText};
+ghost use Rattle.pdu_words.specs.CodeRows.{itemOf, octetsIn, entriesOf};
 
 // An octet of a name that breaks no line and no list.
 fn is_plain(c: u8) -> bool

@@ -8,7 +8,8 @@ use host_numbers::numbers::number;
 ghost use mathlib.Core.Path.{_≡_};
 ghost use Prim.Native.Nat.{_<_};
 ghost use Rattle.text.specs.Page.{page, Writes};
-ghost use Rattle.pdu_words.specs.Rows.{showsKind, passes, testOf, chosen, rowText, rowsText, rowOf, rowsOf};
+ghost use Rattle.pdu_words.specs.Rows.{showsKind, passes, chosen, rowText, rowsText};
+ghost use Rattle.pdu_words.specs.CodeRows.{testOf, rowOf, rowsOf};
 
 fn shows_kind(kinds: u64, kind: u32) -> bool
     ensures { λ r. ⌜ r ≡ showsKind kinds kind ⌝ }

@@ -9,7 +9,8 @@ use text::put_text;
 use text::words::put_word;
 ghost use mathlib.Core.Path.{_≡_};
 ghost use Rattle.text.specs.Page.{page, Writes};
-ghost use Rattle.pdu_words.specs.Ways.{twoDigits, threeDigits, secondsText, tensText, octetsText, ending, nthText, wayText, wayOf};
+ghost use Rattle.pdu_words.specs.Ways.{twoDigits, threeDigits, secondsText, tensText, octetsText, ending, nthText, wayText};
+ghost use Rattle.pdu_words.specs.CodeRows.{wayOf};
 
 // Its last two digits.
 fn put_two(out: &mut Page, at: usize, n: u32) -> usize
@@ -89,7 +90,7 @@ fn put_nth(out: &mut Page, at: usize, n: u32) -> usize
     put_text(out, a, b" report")
 }
 
-// A number in one of the ways, which `wayOf` numbers. `list` is a list of words, and `items` are the octets of the PDU's list.
+// A number in one of the ways, which `wayOf` (specs/CodeRows.antt) numbers. `list` is a list of words, and `items` are the octets of the PDU's list.
 pub(crate) fn put_way(out: &mut Page, at: usize, way: u64, list: u8, n: u32, items: &[u8]) -> usize
     ensures { λ r. ⌜ Writes (page (now (out .entry)) at) (wayText (wayOf way list) n (now (items .entry))) (page (now (out .exit)) r) ⌝ }
 {

@@ -4,11 +4,11 @@ use host_numbers::numbers::number;
 use text::words::put_word;
 ghost use Rattle.text.specs.Page.{page, Writes};
 ghost use Rattle.text.specs.Words.{wordAt};
-ghost use Rattle.pdu_words.specs.Names.{names, listAt, refusalWords};
+ghost use Rattle.pdu_words.specs.Names.{vocabulary, listAt, refusalWords};
 
-// Word n of `names`, which says what they are; nothing past the last.
+// Word n of `vocabulary`, which says what they are; nothing past the last.
 pub(crate) fn put_name(out: &mut Page, at: usize, n: usize) -> usize
-    ensures { λ r. ⌜ Writes (page (now (out .entry)) at) (wordAt names n) (page (now (out .exit)) r) ⌝ }
+    ensures { λ r. ⌜ Writes (page (now (out .entry)) at) (wordAt vocabulary n) (page (now (out .exit)) r) ⌝ }
 {
     put_word(
         out,

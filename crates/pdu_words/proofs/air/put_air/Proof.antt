@@ -1,7 +1,6 @@
-use Rattle.pdu_words.specs.Names.{names, lists, listAt}
+use Rattle.pdu_words.specs.Names.{vocabulary, lists, listAt}
 use Rattle.pdu_words.specs.AirRows.{airRows, airWords}
-use Rattle.pdu_words.specs.Ways.{wayOf, entriesOf}
-use Rattle.pdu_words.specs.Rows.{testOf, rowOf}
+use Rattle.pdu_words.specs.CodeRows.{wayOf, entriesOf, testOf, rowOf}
 use borrow.Author.Needs.{needs}
 use Rattle.pdu_words.proofs.air.put_air.Statement.{statement}
 use Rattle.pdu_words.proofs.air.put_air.Tie as tie
@@ -13,7 +12,7 @@ put-rows-requires : tie.Need-put-rows-requires
 put-rows-requires c κs = search needs
 
 returns : tie.Need-returns
-unfolding airWords airRows rowOf testOf wayOf entriesOf names lists listAt
+unfolding airWords airRows rowOf testOf wayOf entriesOf vocabulary lists listAt
 returns c = c .put-rows .ensures
 
 pub put-air-spec : {M : Type 1} → statement M

@@ -1,7 +1,6 @@
-use Rattle.pdu_words.specs.Names.{names, lists, listAt}
+use Rattle.pdu_words.specs.Names.{vocabulary, lists, listAt}
 use Rattle.pdu_words.specs.GroundRows.{groundRows, groundWords}
-use Rattle.pdu_words.specs.Ways.{wayOf, entriesOf}
-use Rattle.pdu_words.specs.Rows.{testOf, rowOf}
+use Rattle.pdu_words.specs.CodeRows.{wayOf, entriesOf, testOf, rowOf}
 use borrow.Author.Needs.{needs}
 use Rattle.pdu_words.proofs.ground.put_ground.Statement.{statement}
 use Rattle.pdu_words.proofs.ground.put_ground.Tie as tie
@@ -16,7 +15,7 @@ put-rows-requires : tie.Need-put-rows-requires
 put-rows-requires c κs = search needs
 
 returns : tie.Need-returns
-unfolding groundWords groundRows rowOf testOf wayOf entriesOf names lists listAt
+unfolding groundWords groundRows rowOf testOf wayOf entriesOf vocabulary lists listAt
 returns c = c .put-rows .ensures
 
 pub put-ground-spec : {M : Type 1} → statement M

@@ -1,5 +1,5 @@
 use borrow.Author.Tests.{eq-eqb, ne-eqb}
-use Rattle.pdu_words.specs.Ways.{octetsIn}
+use Rattle.pdu_words.specs.CodeRows.{octetsIn}
 use borrow.Author.Needs.{needs}
 use Rattle.pdu_words.proofs.lists.octets_in.Statement.{statement}
 use Rattle.pdu_words.proofs.lists.octets_in.Tie as tie

@@ -1,6 +1,7 @@
 use Rattle.text.proofs.Pages.{after}
 use borrow.Author.Tests.{eq-eqb, ne-eqb}
-use Rattle.pdu_words.specs.Ways.{entryItem, itemOf}
+use Rattle.pdu_words.specs.Ways.{entryItem}
+use Rattle.pdu_words.specs.CodeRows.{itemOf}
 use borrow.Author.Needs.{needs}
 use Rattle.pdu_words.proofs.lists.put_item.Statement.{statement}
 use Rattle.pdu_words.proofs.lists.put_item.Tie as tie

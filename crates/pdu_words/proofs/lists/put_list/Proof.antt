@@ -5,7 +5,8 @@ use native.Mathlib.Omega.{arith}
 use denote.Ref.{now}
 use Rattle.text.specs.Page.{page, wrote}
 use borrow.Author.Needs.{needs}
-use Rattle.pdu_words.specs.Ways.{itemsText, wayText, entriesOf, itemOf, octetsIn}
+use Rattle.pdu_words.specs.Ways.{itemsText, wayText}
+use Rattle.pdu_words.specs.CodeRows.{entriesOf, itemOf, octetsIn}
 use Rattle.pdu_words.proofs.Loops.{item-step, item-end, entries-are}
 use Rattle.pdu_words.proofs.lists.put_list.Statement.{statement}
 use Rattle.pdu_words.proofs.lists.put_list.Tie as tie

@@ -1,5 +1,6 @@
 use borrow.Author.Tests.{ne-eqb}
-use Rattle.pdu_words.specs.Rows.{passes, testOf}
+use Rattle.pdu_words.specs.Rows.{passes}
+use Rattle.pdu_words.specs.CodeRows.{testOf}
 use borrow.Author.Needs.{needs}
 use Rattle.pdu_words.proofs.rows.does_pass.Statement.{statement}
 use Rattle.pdu_words.proofs.rows.does_pass.Tie as tie

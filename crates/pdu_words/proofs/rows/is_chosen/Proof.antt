@@ -1,4 +1,5 @@
-use Rattle.pdu_words.specs.Rows.{chosen, rowOf}
+use Rattle.pdu_words.specs.Rows.{chosen}
+use Rattle.pdu_words.specs.CodeRows.{rowOf}
 use borrow.Author.Needs.{needs}
 use Rattle.pdu_words.proofs.rows.is_chosen.Statement.{statement}
 use Rattle.pdu_words.proofs.rows.is_chosen.Tie as tie

@@ -1,6 +1,7 @@
 use Rattle.text.proofs.Pages.{after}
 use mathlib.Core.Path.{refl}
-use Rattle.pdu_words.specs.Rows.{is, rowText, rowOf}
+use Rattle.pdu_words.specs.Rows.{is, rowText}
+use Rattle.pdu_words.specs.CodeRows.{rowOf}
 use borrow.Author.Needs.{needs}
 use Rattle.pdu_words.proofs.rows.put_row.Statement.{statement}
 use Rattle.pdu_words.proofs.rows.put_row.Tie as tie

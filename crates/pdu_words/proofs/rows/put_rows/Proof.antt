@@ -5,7 +5,8 @@ use native.Mathlib.Omega.{arith}
 use denote.Ref.{now}
 use Rattle.text.specs.Page.{page, wrote}
 use borrow.Author.Needs.{needs}
-use Rattle.pdu_words.specs.Rows.{is, rowsText, rowsOf}
+use Rattle.pdu_words.specs.Rows.{is, rowsText}
+use Rattle.pdu_words.specs.CodeRows.{rowsOf}
 use Rattle.pdu_words.proofs.Loops.{row-step, row-end}
 use Rattle.pdu_words.proofs.rows.put_rows.Statement.{statement}
 use Rattle.pdu_words.proofs.rows.put_rows.Tie as tie

@@ -1,6 +1,7 @@
 use borrow.Author.Tests.{ne-eqb}
 use mathlib.Core.Path.{refl}
-use Rattle.pdu_words.specs.Ways.{wayText, wayOf}
+use Rattle.pdu_words.specs.Ways.{wayText}
+use Rattle.pdu_words.specs.CodeRows.{wayOf}
 use borrow.Author.Needs.{needs}
 use Rattle.pdu_words.proofs.ways.put_way.Statement.{statement}
 use Rattle.pdu_words.proofs.ways.put_way.Tie as tie

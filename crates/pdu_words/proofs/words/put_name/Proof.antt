@@ -1,4 +1,4 @@
-use Rattle.pdu_words.specs.Names.{names}
+use Rattle.pdu_words.specs.Names.{vocabulary}
 use borrow.Author.Needs.{needs}
 use Rattle.pdu_words.proofs.words.put_name.Statement.{statement}
 use Rattle.pdu_words.proofs.words.put_name.Tie as tie
@@ -13,7 +13,7 @@ put-word-requires : tie.Need-put-word-requires
 put-word-requires c κs = search needs
 
 returns : tie.Need-returns
-unfolding names
+unfolding vocabulary
 returns c = c .put-word .ensures
 
 pub put-name-spec : {M : Type 1} → statement M
