@@ -8,8 +8,8 @@ use lib.ListN.{take, drop}
 use Rattle.text.specs.Text.{wordEnd}
 use Rattle.text.proofs.Lengths.{kept-enough}
 use Rattle.text_lines.specs.Lines.{linesOf}
-use Rattle.text_lines.specs.Pulls.{left}
-use Rattle.text_lines.proofs.Pieces.{fronts, Pulled-all, lines-pieces}
+use Rattle.text_lines.specs.Pulls.{left, Pulled-all}
+use Rattle.text_lines.proofs.Pieces.{fronts, lines-pieces}
 use Rattle.pdu_words.specs.LineText.{refusedLine, tailText, lineText, answerText, answersOf}
 use Rattle.pdu_words.specs.declared.lines.Task.{Task}
 
