@@ -1,0 +1,72 @@
+-- The calls that lines make, by the C names of include/adsc.h without `adsc_`, and what a host has after one.
+use mathlib.Core.Path.{_≡_}
+use mathlib.Core.List.{List, [], _∷_}
+use Prim.Native.Nat.{ℕ}
+use lib.Dec.{eqb}
+use lib.ListN.{getD}
+use Rattle.text.specs.Letters.{ascii}
+use Rattle.text.specs.Text.{pick}
+use Rattle.text.specs.Words.{foundFrom}
+use Rattle.per.specs.Writing.{Delivered, writePdu}
+use Rattle.pdu.specs.UplinkTable.{groundC}
+use Rattle.pdu.specs.DownlinkTable.{airC}
+use Rattle.ground.specs.declared.call.Call.the-variants.{Request, UserAbort, Elapse, StartConfirm, StartRejected, Data, EndConfirm, PeerAbort, AirAbort, Down}
+use Rattle.host_numbers.specs.UplinkNumbers.{groundAt}
+use Rattle.host_numbers.specs.DownlinkNumbers.{airAt}
+use Rattle.host_record.specs.Hosting.{Done, Opening, hosted, made}
+use Rattle.adschost.specs.Flatness.{numberOf, lengthOf}
+use Rattle.host_lines.specs.declared.call.Called.{Called}
+
+abbrev pub hostWords : List (List ℕ)
+hostWords =
+    ascii "write_ground" ∷ ascii "write_air" ∷ ascii "open" ∷ ascii "request" ∷ ascii "user_abort" ∷ ascii "elapse" ∷ ascii "start_confirm"
+    ∷ ascii "start_rejected" ∷ ascii "data" ∷ ascii "end_confirm" ∷ ascii "peer_abort" ∷ ascii "air_abort" ∷ ascii "down" ∷ []
+
+-- the number of a word in that order from 1 on, 0 for any other text
+unfoldable pub wordOf : List ℕ → ℕ
+wordOf w = foundFrom 1 w hostWords
+
+-- the number that a call gives, the length that it tells, and its two lent buffers
+pub record After : Type 0 where
+  pub number : ℕ
+  pub length : ℕ
+  pub link : List ℕ
+  pub out : List ℕ
+
+-- writing: the length was 999 before it
+unfoldable pub written : List ℕ → Delivered → After
+written link d = record { number = numberOf (d .answer); length = lengthOf (d .answer) 999; link = link; out = d .octets }
+
+-- a call on a record
+unfoldable pub onLink : Done → After
+onLink d = record { number = d .number; length = 999; link = d .link; out = d .answer }
+
+abbrev pub opens : Opening → List ℕ → Done
+opens o out = record { number = o .number; link = o .link; answer = out }
+
+-- by its word; `elapse` takes the first number, and one that is not there counts as 0
+unfoldable pub linkDone : ℕ → List ℕ → List ℕ → List ℕ → List ℕ → Done
+linkDone w link octets numbers out =
+    pick (eqb w 3) (opens (made numbers link) out)
+    (pick (eqb w 4) (hosted (Request (groundAt numbers)) [] link out)
+    (pick (eqb w 5) (hosted UserAbort [] link out)
+    (pick (eqb w 6) (hosted (Elapse (getD numbers 0 0)) [] link out)
+    (pick (eqb w 7) (hosted StartConfirm octets link out)
+    (pick (eqb w 8) (hosted StartRejected [] link out)
+    (pick (eqb w 9) (hosted Data octets link out)
+    (pick (eqb w 10) (hosted EndConfirm [] link out)
+    (pick (eqb w 11) (hosted PeerAbort [] link out)
+    (pick (eqb w 12) (hosted AirAbort octets link out)
+    (hosted Down [] link out))))))))))
+
+unfoldable pub called : ℕ → List ℕ → List ℕ → List ℕ → List ℕ → After
+called w link octets numbers out =
+    pick (eqb w 1) (written link (writePdu groundC (groundAt numbers) out))
+    (pick (eqb w 2) (written link (writePdu airC (airAt numbers octets) out)) (onLink (linkDone w link octets numbers out)))
+
+-- what the code gives
+pub record Does (a : After) (r : Called) (link out : List ℕ) : Type 0 where
+  pub number-is : r .number ≡ a .number
+  pub length-is : r .length ≡ a .length
+  pub link-is : link ≡ a .link
+  pub out-is : out ≡ a .out
