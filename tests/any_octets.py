@@ -6,7 +6,8 @@ import sys
 
 import broken_input
 
-ANSWERS = {"coder": rb"(ok( [0-9a-f]+)?|refused [0-9]+)\Z", "pdutext": rb"((air|ground): [ -~]+|refused [0-9]+ \([ -~]+\))\Z"}
+ANSWERS = {"coder": rb"(ok( [0-9a-f]+)?|refused [0-9]+)\Z", "pdutext": rb"((air|ground): [ -~]+|refused [0-9]+ \([ -~]+\))\Z",
+           "hostcall": rb"([0-9]+ [0-9]+ [0-9a-f]* [0-9a-f]*|refused 17)\Z"}
 ANSWER = re.compile(ANSWERS[sys.argv[-1]])
 
 
@@ -47,7 +48,7 @@ def main():
         "one long line": b"a" * 5000000,
         "long lines": b"".join(b"air " + b"0" * n + b"\n" for n in (4091, 4092, 4093, 70000, 1000000)),
         "random octets": rng.randbytes(4000000),
-        "many lines": b"ground 74\nair 4200\n" * 200000,
+        "many lines": b"ground 74\nair 4200\nwrite_ground   a5 0\n" * 200000,
     }
     return all([*(check(name, data) for name, data in cases.items()), broken()])
 

@@ -127,6 +127,9 @@ TABLE = {
         ('short-term-intent', NOT_CARRIED), ('extended-profile', NOT_CARRIED)], []),
 }
 
+# A group of fields may give its presence bits as one number, as a host does; it then names fields that are absent too, which are no part of it.
+PRESENCE = 'presence'
+
 DEFAULTS = {('periodic-contract', 'interval'): ('minutes', 5)}
 NEEDS_ONE = {'event-contract'}
 
@@ -261,11 +264,18 @@ class Writer:
         self.number(index, place, 'index')
         self.write(alternatives[place][1], value[1])
 
-    def fields(self, form, value, optional, required):
-        known = [name for name, _ in optional + required]
-        assert all(name in known for name in value), (form, value)
+    def present(self, form, value, optional):
+        if PRESENCE in value:               # all presence bits are one field
+            if not 0 <= value[PRESENCE] < 1 << len(optional):
+                raise Refused(5)
+            return [bool(value[PRESENCE] >> place & 1) for place in reversed(range(len(optional)))]
         # The default interval is never sent, whether the value names it or not.
-        present = [name in value and value[name] != DEFAULTS.get((form, name), ()) for name, _ in optional]
+        return [name in value and value[name] != DEFAULTS.get((form, name), ()) for name, _ in optional]
+
+    def fields(self, form, value, optional, required):
+        known = [PRESENCE] + [name for name, _ in optional + required]
+        assert all(name in known for name in value), (form, value)
+        present = self.present(form, value, optional)
         judge_presence(form, optional, present)
         if optional:
             self.put('presence', form, int(''.join('01'[there] for there in present), 2), len(optional))

@@ -1,0 +1,308 @@
+"""Compares a program that makes the calls of include/adsc.h from lines with hostmodel.py, on fresh random lines.
+
+    compare_host.py [--writing N] [--records N] [--seed S] [--change NAME] -- PROGRAM [ARGS..]
+    compare_host.py [--writing N] [--records N] [--seed S] --self
+    compare_host.py --list
+
+PROGRAM is hostcall. Writing is from numbers: each at its edges, each two things out of order, every room; calls are on link records, good and
+one step off. --change compares with a model of which one rule is changed: then the comparison must fail. --self compares each such model with the
+plain one, without a program, and wants all told apart. --list prints their names. Exit 0: no differences, and everything that is due was met.
+"""
+
+import argparse
+import collections
+import contextlib
+import dataclasses
+import functools
+import random
+import subprocess
+import sys
+
+import hostlines
+import hostmodel
+import percoder
+from hostmodel import ORDER, RULES, STATES
+
+REFUSALS = {'write_ground': (5, 6, 10, 15), 'write_air': (5, 6, 10, 12), 'open': (3, 6), 'request': (29, 1, 5, 10, 15, 6), 'elapse': (29, 4, 6),
+            **{word: (29, 1, 6) if word == 'user_abort' else (29, 2, 6) for word in hostmodel.CALLS if word not in ('request', 'elapse')}}
+UNREADABLE = (b'', b'write', b'write_ground', b'write_ground  ', b'Open    1', b'open   1', b'open    1 ', b'open    01', b'open    4294967296', b'open 0   1', b'open AA   1',
+              b'open a a a 1', b'open' + b' ' * 3 + b' 1' * 32, b'elapse ' + b'00' * 257 + b'  ', b'elapse    1\r', b'down   \0', b'downs   ', b'adsc_down   ', b'down   ' + b' 1' * 2100)
+READABLE = (b'down   ', b'elapse   ', b'open   ' + b' 1' * 31, b'elapse ' + b'00' * 256 + b'  ', b'request    6 0 1 1')
+
+
+# ---- models with one rule changed
+
+class PresenceLast(percoder.Writer):
+    """10 and 15 behind the fields that the presence bits stand before."""
+    def fields(self, form, value, optional, required):
+        try:
+            super().fields(form, value, optional, required)
+        except percoder.Refused as refused:
+            if refused.number in (10, 15):
+                for name, content in required:
+                    self.write(content, value[name])
+            raise
+
+
+class RangesLast(percoder.Writer):
+    """10, 12 and 15 before the 5 of any number."""
+    late = False
+
+    def number(self, name, value, kind='number'):
+        try:
+            super().number(name, value, kind)
+        except percoder.Refused:
+            self.late = True
+
+    def write(self, form, value):
+        super().write(form, value)
+        if self.late and form in ('air*', 'ground*'):
+            raise percoder.Refused(5)
+
+
+class RangeLast(percoder.Writer):
+    """Presence bits that do not fit are judged by those that do."""
+    def present(self, form, value, optional):
+        most = 1 << len(optional)
+        if percoder.PRESENCE in value and value[percoder.PRESENCE] >= most:
+            percoder.judge_presence(form, optional, super().present(form, {**value, percoder.PRESENCE: value[percoder.PRESENCE] % most}, optional))
+        return super().present(form, value, optional)
+
+
+class RangeCut(percoder.Writer):
+    """Presence bits that do not fit are left out."""
+    def present(self, form, value, optional):
+        return super().present(form, {**value, percoder.PRESENCE: value[percoder.PRESENCE] % (1 << len(optional))} if percoder.PRESENCE in value else value, optional)
+
+
+class CountLast(percoder.Writer):
+    """12 behind the entries."""
+    def list(self, form, value, content):
+        for entry in value[:16]:
+            percoder.Writer().write(content, entry)
+        super().list(form, value, content)
+
+
+class AbsentJudged(percoder.Writer):
+    """Fields that are absent are judged too."""
+    def fields(self, form, value, optional, required):
+        super().fields(form, value, optional, required)
+        for name, content in optional:
+            if content in percoder.RANGES and name in value:
+                percoder.Writer().write(content, value[name])
+
+
+class AnyElement(percoder.Writer):
+    """An event contract with no element is taken."""
+    def fields(self, form, value, optional, required):
+        if form in percoder.NEEDS_ONE and value.get(percoder.PRESENCE) == 0:
+            value = {}
+            self.put('presence', form, 0, len(optional))
+            return
+        super().fields(form, value, optional, required)
+
+
+@contextlib.contextmanager
+def ranged(name, low, high):
+    """One range moved at one end."""
+    kept = percoder.RANGES[name]
+    percoder.RANGES[name] = (kept[0] + low, kept[1] + high)
+    try:
+        yield RULES
+    finally:
+        percoder.RANGES[name] = kept
+
+
+def ruled(**fields):
+    return lambda: contextlib.nullcontext(dataclasses.replace(RULES, **fields))
+
+
+def without_state(place, state):
+    timer, states, also = RULES.watch[place]
+    return RULES.watch[:place] + ((timer, tuple(other for other in states if other != state), also),) + RULES.watch[place + 1:]
+
+
+def first(judge):
+    return (judge, *(other for other in ORDER if other != judge))
+
+
+def changes():
+    yield 'writing: 10 behind the fields', ruled(writer=PresenceLast)
+    yield 'writing: 10, 12 and 15 before 5', ruled(writer=RangesLast)
+    yield 'writing: presence bits that do not fit are 10 first', ruled(writer=RangeLast)
+    yield 'writing: presence bits that do not fit are left out', ruled(writer=RangeCut)
+    yield 'writing: 12 behind the entries', ruled(writer=CountLast)
+    yield 'writing: absent fields are judged', ruled(writer=AbsentJudged)
+    yield 'writing: no element is taken', ruled(writer=AnyElement)
+    yield 'writing: levels without a sign', ruled(signed=False)
+    yield 'writing: a refused write changes the output', ruled(spoils=('out',))
+    yield 'writing: a good write changes what follows', ruled(spoils=('past',))
+    yield 'writing: a refused write tells a length', ruled(told=0)
+    yield 'writing: one octet too few is room', ruled(short=1)
+    yield 'writing: just enough is no room', ruled(short=-1)
+    for name in percoder.RANGES:
+        if name not in ('octets', 'count', 'air-index', 'ground-index', 'negative-reason', 'noncompliance-index', 'interval-index'):
+            yield f'writing: {name} ends one later', functools.partial(ranged, name, 0, 1)
+            yield f'writing: {name} ends one sooner', functools.partial(ranged, name, 0, -1)
+            yield f'writing: {name} begins one sooner', functools.partial(ranged, name, -1, 0)
+    yield 'writing: lists of 17', functools.partial(ranged, 'count', 0, 1)
+    yield 'writing: lists of 15', functools.partial(ranged, 'count', 0, -1)
+    yield 'records: a setting of 0', ruled(settings=(0, 86400))
+    yield 'records: no setting of 1', ruled(settings=(2, 86400))
+    yield 'records: a setting of 86,401', ruled(settings=(1, 86401))
+    yield 'records: no setting of 86,400', ruled(settings=(1, 86399))
+    yield 'records: 0 left', ruled(left=(0, 0))
+    yield 'records: not 1 left', ruled(left=(2, 0))
+    yield 'records: setting + 1 left', ruled(left=(1, 1))
+    yield 'records: not the setting left', ruled(left=(1, -1))
+    yield 'records: a timer that rests has 1 left', ruled(resting=1)
+    yield 'records: a timer that rests has any left', ruled(resting=1 << 32)
+    yield 'records: IDLE with a module not IDLE', ruled(ended=('END',))
+    yield 'records: END with a module not IDLE', ruled(ended=('IDLE',))
+    for li in ('START', 'ACTIVE'):
+        yield f'records: {li} wants every module IDLE', ruled(ended=(*RULES.ended, li))
+    for place, module in enumerate(STATES):
+        yield f'records: one state more of {module}', ruled(states=tuple(most + (place == at) for at, most in enumerate(RULES.states)))
+    for size in (76, 78):
+        yield f'records: {size} octets', ruled(sizes=(77, size))
+    for place, (timer, states, also) in enumerate(RULES.watch):
+        for state in states:
+            yield f'records: {timer} need not run in {state}', ruled(watch=without_state(place, state))
+        if also:
+            yield f'records: {timer} runs without {also}', ruled(watch=RULES.watch[:place] + ((timer, states, None),) + RULES.watch[place + 1:])
+    for judge in ORDER[1:]:
+        yield f'records: {judge} before 29', ruled(order=first(judge))
+    yield 'records: 6 before 4', ruled(order=('bad_record', 'no_room', 'long_elapse', 'not_listed', 'bad_fields'))
+    yield 'records: 6 before 1 and 2', ruled(order=('bad_record', 'long_elapse', 'no_room', 'not_listed', 'bad_fields'))
+    yield 'records: 6 before fields', ruled(order=('bad_record', 'long_elapse', 'not_listed', 'no_room', 'bad_fields'))
+    yield 'records: fields before 1', ruled(order=('bad_record', 'long_elapse', 'bad_fields', 'not_listed', 'no_room'))
+    yield 'records: 21 octets are room', ruled(room=21)
+    yield 'records: 22 octets are no room', ruled(room=23)
+    yield 'records: a refused call changes the record', ruled(spoils=('link',))
+    yield 'records: a refused call changes the answer', ruled(spoils=('out',))
+
+
+CHANGES = dict(changes())
+
+
+def changed(line, rules):
+    """The answer of a changed model, 'none' where it has none."""
+    try:
+        return hostmodel.answer(line, rules)
+    except (ArithmeticError, AssertionError, AttributeError, LookupError, TypeError, ValueError):
+        return 'none'
+
+
+def told_apart(rng, lines):
+    """Each changed model against the plain one, up to the first line of its own that tells them apart."""
+    plain = [(line, hostmodel.answer(line)) for line in lines]
+    rng.shuffle(plain)
+    missed = []
+    for name, change in CHANGES.items():
+        own = (pair for pair in plain if pair[0].startswith(b'write') == name.startswith('writing'))
+        with change() as rules:
+            if all(changed(line, rules) == text for line, text in own):
+                missed.append(name)
+    print(f'changed models {len(CHANGES)}, told apart {len(CHANGES) - len(missed)}')
+    for name in missed:
+        print(f'not told apart: {name}')
+    return 1 if missed else 0
+
+
+# ---- the program
+
+def run(program, lines):
+    """Its answers, and what is wrong with it."""
+    try:
+        ended = subprocess.run(program, input=b''.join(line + b'\n' for line in lines), stdout=subprocess.PIPE)
+    except OSError as error:
+        return [], [f'cannot run the program: {error}']
+    answers = ended.stdout.decode('latin-1').split('\n')
+    faults = [] if answers.pop() == '' else ['the last answer has no line end']
+    faults += [f'the program ended with {ended.returncode}'] if ended.returncode else []
+    return answers, faults + ([f'{len(answers)} answers to {len(lines)} lines'] if len(answers) != len(lines) else [])
+
+
+def tally(lines, expected):
+    """word -> number -> how often"""
+    met = collections.defaultdict(collections.Counter)
+    for line, text in zip(lines, expected):
+        if text != 'refused 17':
+            met[line.split(b' ')[0].decode()][int(text.split(' ')[0])] += 1
+    return met
+
+
+def faults_of(numbers, met):
+    faults = [f'no {word} was due with {number}' for word, known in REFUSALS.items() for number in (0, *known) if not numbers[word][number]]
+    faults += [f'{word} was due with {number}' for word in numbers for number in numbers[word] if number not in (0, *REFUSALS[word])]
+    return faults + [f'not met: {name}' for name in hostlines.WRITING_DUE + hostlines.RECORDS_DUE if not met[name]]
+
+
+def show_met(numbers, met):
+    for word in hostmodel.WORDS:
+        print(f'{word}: accepted {numbers[word][0]},', *(f'refused-{number} {numbers[word][number]}' for number in REFUSALS[word]))
+    print('29 alone:', *(f'{ground} {met[f"29 for {ground} alone"]}' for ground in hostlines.GROUNDS))
+    print('29 before another:', *(f'{other} {met[f"29 before {other}"]}' for first, other in hostlines.MEETINGS if first == 29))
+    for edges, what in ((hostlines.SETTINGS, 'setting {}'), (hostlines.EDGES, '{} left')):
+        for how in ('runs', 'rests'):
+            print(f'a timer {how}:', *(f'{what.format(edge)} {sum(met[f"{timer} {how}: {what.format(edge)}"] for timer in hostlines.TIMERS)},' for edge in edges))
+    print(f'edges and grounds met: writing {sum(met[name] > 0 for name in hostlines.WRITING_DUE)}/{len(hostlines.WRITING_DUE)},',
+          f'records {sum(met[name] > 0 for name in hostlines.RECORDS_DUE)}/{len(hostlines.RECORDS_DUE)}')
+
+
+def compare(program, lines, met, change):
+    with CHANGES[change]() if change else contextlib.nullcontext(RULES) as rules:
+        expected = [changed(line, rules) if change else hostmodel.answer(line) for line in lines]
+    answers, faults = run(program, lines)
+    answers += ['(none)'] * (len(lines) - len(answers))
+    wrong = [place for place, text in enumerate(expected) if answers[place] != text]
+    if change is None:
+        numbers = tally(lines, expected)
+        faults += faults_of(numbers, met)
+        show_met(numbers, met)
+    print(f'differences {len(wrong)}')
+    for place in wrong[:5]:
+        print(f'line {place + 1}: {lines[place].decode("latin-1")[:700]!r}\n  expected {expected[place]}\n  got      {answers[place]}')
+    for fault in faults[:20]:
+        print(f'fault: {fault}')
+    return 1 if wrong or faults else 0
+
+
+def parse():
+    arguments, program = sys.argv[1:], []
+    if '--' in arguments:
+        place = arguments.index('--')
+        arguments, program = arguments[:place], arguments[place + 1:]
+    parser = argparse.ArgumentParser(usage=__doc__.split('\n\n')[1])
+    parser.add_argument('--writing', type=int, default=20000)
+    parser.add_argument('--records', type=int, default=10000)
+    parser.add_argument('--seed', type=int, default=None)
+    parser.add_argument('--change', choices=CHANGES, metavar='NAME')
+    parser.add_argument('--self', action='store_true', dest='itself')
+    parser.add_argument('--list', action='store_true')
+    options = parser.parse_args(arguments)
+    if not options.list and options.itself == bool(program):
+        parser.error('give a program or --self')
+    return options, program
+
+
+def main():
+    options, program = parse()
+    if options.list:
+        print('\n'.join(CHANGES))
+        return 0
+    seed = random.SystemRandom().randrange(1 << 32) if options.seed is None else options.seed
+    rng = random.Random(seed)
+    writing, met = hostlines.writing(rng, options.writing)
+    records, more = hostlines.records(rng, options.records)
+    lines = writing + records + list(UNREADABLE + READABLE)
+    assert all((hostmodel.parts(line) is None) == (line in UNREADABLE) for line in lines)
+    print(f'seed {seed}' + (f', changed: {options.change}' if options.change else ''))
+    print(f'lines {len(lines)}: writing {len(writing)}, records {len(records)}')
+    if options.itself:
+        return told_apart(rng, lines)
+    return compare(program, lines, met + more, options.change)
+
+
+if __name__ == '__main__':
+    sys.exit(main())

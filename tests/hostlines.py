@@ -1,0 +1,397 @@
+"""Lines for the program hostcall: writing from numbers, and calls on link records good and one step off.
+
+    writing(rng, count) -> lines, what they met        records(rng, count) -> lines, what they met
+
+What is met is a Counter of names; WRITING_DUE and RECORDS_DUE say which names have to be in it.
+"""
+
+import collections
+import itertools
+
+import hostmodel
+import linkmodel
+from hostmodel import AIR, CALLS, GROUND, STATES, Calling, Record, grounds, link_of, spelt, taken_apart, written
+from linkscripts import Pool
+from percoder import RANGES
+
+TOP = 2 ** 32
+KINDS = {'ground': [name for name, _ in hostmodel.TABLE['ground'][2]], 'air': [name for name, _ in hostmodel.TABLE['air'][2]]}
+PLACES = {'ground': GROUND, 'air': AIR}
+
+# ---- writing: the numbers of a kind that are looked at, each with its range
+
+FIX = {'south': 'sign', 'latitude': 'degrees-latitude', 'latitude-minutes': 'minutes-of-degree', 'latitude-tenths': 'tenth-seconds',
+       'west': 'sign', 'longitude': 'degrees-longitude', 'longitude-minutes': 'minutes-of-degree', 'longitude-tenths': 'tenth-seconds',
+       'level': 'level', 'year': 'year', 'month': 'month', 'day': 'day', 'has-seconds': 'boolean', 'hours': 'hours', 'minutes': 'minutes',
+       'accuracy': 'accuracy', 'units': 'boolean', 'avoidance': 'boolean'}
+REPORTS = ('demand-report', 'emergency', 'event-report', 'periodic-report')
+WHAT = {'cancel-contract': 'cancel-contract', 'provider-abort': 'abort-reason', 'positive-ack': 'request-type', 'negative-ack': 'request-type',
+        'noncompliance': 'noncompliance-index', **dict.fromkeys(REPORTS, 'boolean')}
+ENTRIES = ('report-type', 'noncompliance-event-type', 'report-type-and-period')
+
+# Presence bits as a host gives them: how many, and which are carried.
+MASKS = {'demand-contract': (7, 0x7c), 'periodic-contract': (7, 0x7c), 'event-contract': (11, 0x84), 'emergency': (2, 2),
+         **dict.fromkeys(('demand-report', 'event-report', 'periodic-report'), (7, 64))}
+MODULI = dict(zip(GROUND[4:], (64, 32, 16, 8, 4)))
+COUNTS = (17, 18, 255, 256, 257, TOP - 1)
+
+
+def fields_of(family, kind, n):
+    """place -> range, or 'mask', 'count' and 'entries', of what this PDU has."""
+    if family == 'ground':
+        found = {'what': WHAT[kind]} if kind in WHAT else {'what': 'mask'} if kind in MASKS else {}
+        if kind in ('modify-emergency', 'periodic-contract'):
+            found.update(scale='interval-index', interval=('interval-seconds', 'interval-minutes')[n['scale'] % 2])
+        if kind == 'periodic-contract':
+            found.update((name, 'modulus') for name, bit in MODULI.items() if n['what'] & bit)
+        return found
+    found = {'what': WHAT[kind]} if kind in WHAT else {}
+    if kind in REPORTS:
+        found.update({'detail': 'event-type'} if kind == 'event-report' else {}, elements='mask', **FIX)
+        found.update({'seconds': 'seconds'} if n['has-seconds'] == 1 else {})
+        found.update({'address': 'address'} if n['elements'] & MASKS[kind][1] else {})
+    if kind == 'negative-ack':
+        found['detail'] = 'negative-reason'
+    if kind == 'noncompliance' or kind == 'negative-ack' and n['detail'] == 2:
+        found.update(count='count', entries='entries')
+    return found
+
+
+def entry_range(kind, n):
+    return RANGES['character'] if kind == 'negative-ack' else RANGES[ENTRIES[n['what'] % 3]]
+
+
+class Pdu:
+    """Numbers and list octets of a PDU that is good; what it has not is anything."""
+
+    def __init__(self, rng, family, kind, full=False):
+        self.rng, self.family, self.kind = rng, family, kind
+        self.n = {place: rng.choice((rng.randrange(TOP), rng.randrange(300), 0)) for place in PLACES[family]}
+        self.n['kind'] = KINDS[family].index(kind)
+        self.octets = rng.randbytes(rng.choice((0, 0, 5, 128, 140)))
+        for place in ('what', 'scale', 'detail', 'elements', 'has-seconds'):        # these say what else there is
+            if place in self.n and place in fields_of(family, kind, self.n):
+                self.n[place] = self.good(place)
+        if full:
+            self.n.update({'has-seconds': 1, 'elements': MASKS[kind][1]} if kind in REPORTS else {})
+            self.n.update({'detail': 2} if kind == 'negative-ack' else {})
+            self.n.update({'what': 0x7c} if kind == 'periodic-contract' else {})
+        for place in self.fields():
+            if place not in ('what', 'scale', 'detail', 'elements', 'has-seconds', 'entries'):
+                self.n[place] = max(self.good(place), 1) if full and place == 'count' else self.good(place)
+        if 'entries' in self.fields():
+            low, high = entry_range(kind, self.n)
+            self.octets = bytes(rng.choice((low, high, rng.randint(low, high))) for _ in range(16 * (8 if kind == 'negative-ack' else 1)))
+            used = self.used()
+            self.octets = self.octets[:used] + rng.randbytes(rng.choice((0, 3)))    # past the entries: anything
+
+    def used(self):
+        return self.n['count'] * (8 if self.kind == 'negative-ack' else 1)
+
+    def fields(self):
+        return fields_of(self.family, self.kind, self.n)
+
+    def good(self, place):
+        form = fields_of(self.family, self.kind, self.n)[place]
+        if form == 'mask':
+            carried = MASKS[self.kind][1]
+            return self.rng.choice((carried, self.rng.randrange(2048) & carried or carried)) if self.kind == 'event-contract' else self.rng.choice(
+                (carried, 0, self.rng.randrange(128) & carried))
+        low, high = RANGES[form]
+        return self.rng.choice((low, high, self.rng.randint(low, high))) % TOP
+
+    def edges(self, place):
+        """name -> number: just outside, just inside."""
+        form = self.fields()[place]
+        if form == 'mask':
+            bits, carried = MASKS[self.kind]
+            off = [1 << bit for bit in range(bits) if not carried >> bit & 1]
+            return {'none': 0, 'carried': carried, 'all': (1 << bits) - 1, 'over': 1 << bits, 'over and not carried': (1 << bits) + off[0],
+                    'top': TOP - 1, **{f'not carried {bit}': bit for bit in off}}
+        low, high = RANGES[form]
+        return {'below': (low - 1) % TOP, 'low': low % TOP, 'high': high, 'above': high + 1, 'top bit': 1 << 31, 'any': self.rng.randrange(TOP)}
+
+    def spoil(self, place):
+        """One thing out of order: a number outside, a bit not carried, a list too long, an entry outside."""
+        form = self.fields()[place]
+        if form == 'entries':
+            if self.used() == 0 or not self.octets:
+                return
+            at = self.rng.randrange(min(self.used(), len(self.octets)))
+            high = entry_range(self.kind, self.n)[1]
+            self.octets = self.octets[:at] + bytes([self.rng.choice((high + 1, 255))]) + self.octets[at + 1:]
+        elif form == 'count':
+            self.n['count'] = self.rng.choice(COUNTS)
+        elif form == 'mask':
+            fine = ('carried', 'none')[:1 if self.kind == 'event-contract' else 2]
+            self.n[place] = self.rng.choice([number for name, number in self.edges(place).items() if name not in fine])
+        else:
+            self.n[place] = self.rng.choice([self.edges(place)[name] for name in ('below', 'above')])
+
+    def numbers(self):
+        return [self.n[place] for place in PLACES[self.family]]
+
+    def pdu(self):
+        value = hostmodel.ground_value(self.numbers()) if self.family == 'ground' else hostmodel.air_value(self.numbers(), self.octets)
+        return written(self.family, value)
+
+    def line(self, room=None, numbers=None):
+        pdu, rng = self.pdu(), self.rng
+        if room is None:
+            size = len(pdu) if isinstance(pdu, bytes) else rng.randrange(20)
+            room = max(0, rng.choice((size, size, size + 1, size - 1, 0, 128, 160)))
+        numbers = self.numbers() if numbers is None else numbers
+        return line_of('write_' + self.family, rng.randbytes(rng.choice((0, 0, 2))), self.octets, rng.randbytes(room), numbers)
+
+
+def line_of(word, link, octets, out, numbers):
+    return ' '.join([word, link.hex(), octets.hex(), out.hex(), *map(str, numbers)]).encode()
+
+
+ALL_KINDS = [(family, kind) for family, kinds in KINDS.items() for kind in kinds]
+
+
+def edge_lines(rng, met):
+    """Each number of each kind at each edge; each two things out of order together."""
+    for family, kind in ALL_KINDS:
+        for place in Pdu(rng, family, kind, True).fields():
+            if place != 'entries':
+                for name in Pdu(rng, family, kind, True).edges(place):
+                    pdu = Pdu(rng, family, kind, True)
+                    pdu.n[place] = pdu.edges(place)[name]
+                    met[f'{family} {kind}: {place} {name}'] += 1
+                    yield pdu.line(128)
+        for pair in itertools.combinations(Pdu(rng, family, kind, True).fields(), 2):
+            pdu = Pdu(rng, family, kind, True)
+            for place in reversed(pair):
+                if place in pdu.fields():
+                    pdu.spoil(place)
+            met[f'{family} {kind}: two out of order'] += 1
+            yield pdu.line(rng.choice((128, 128, 0)))
+
+
+def room_lines(rng, met):
+    """Every room from none to two octets more than the PDU has."""
+    for family, kind in ALL_KINDS:
+        for full in (True, False):
+            pdu = Pdu(rng, family, kind, full)
+            size = len(pdu.pdu())
+            for room in range(size + 3):
+                met[f'{family} {kind}: room {min(room - size, 0) or "for it"}' if room >= size - 1 else f'{family} {kind}: less room'] += 1
+                yield pdu.line(room)
+
+
+def other_lines(rng, met):
+    """Levels, lists, kinds and lengths of their own."""
+    for level in (-76, -75, -1, 0, 10000, 10001, -2 ** 31):
+        for kind in REPORTS:
+            pdu = Pdu(rng, 'air', kind)
+            pdu.n['level'] = level % TOP
+            met[f'level {level}'] += 1
+            yield pdu.line(128)
+    for kind, count, short in itertools.product(('negative-ack', 'noncompliance'), (0, 1, 15, 16, *COUNTS), (False, True)):
+        pdu = Pdu(rng, 'air', kind, True)
+        pdu.n['count'] = count
+        pdu.octets = pdu.octets[:3] if short else bytes(128)
+        met[f'{kind}: a list of {count}'] += 1
+        yield pdu.line(128)
+    for what, over, place in itertools.product(range(3), (0, 1, 2, 3), range(5)):
+        pdu = Pdu(rng, 'air', 'noncompliance')
+        octet = RANGES[ENTRIES[what]][1] + over
+        pdu.n['what'], pdu.n['count'], pdu.octets = what, 5, bytes(place) + bytes([octet]) + bytes(9)
+        met[f'an entry {over} over'] += 1
+        yield pdu.line(128)
+    for octet in (127, 128, 255):
+        for place in range(24):
+            pdu = Pdu(rng, 'air', 'negative-ack', True)
+            pdu.n['count'], pdu.octets = 3, bytes(place) + bytes([octet]) + bytes(30 - place)
+            met[f'a character {octet}'] += 1
+            yield pdu.line(128)
+    for family, kind in itertools.product(KINDS, (8, 9, 10, 15, 16, 256, TOP - 1)):
+        pdu = Pdu(rng, family, rng.choice(KINDS[family]))
+        pdu.n['kind'] = kind
+        met[f'{family}: kind {kind}'] += 1
+        yield pdu.line(128)
+    for family, kind in ALL_KINDS:
+        for size in range(30):
+            pdu = Pdu(rng, family, kind, True)
+            met[f'{family}: {size} numbers'] += 1
+            yield pdu.line(128, (pdu.numbers() + [rng.randrange(TOP) for _ in range(30)])[:size])
+
+
+def random_write(rng, met):
+    family, kind = rng.choice(ALL_KINDS)
+    pdu = Pdu(rng, family, kind, rng.random() < 0.5)
+    for place in rng.sample(list(pdu.fields()), min(len(pdu.fields()), rng.choice((0, 0, 1, 1, 2, 3)))):
+        if place in pdu.fields():
+            pdu.spoil(place)
+    met['random'] += 1
+    return pdu.line()
+
+
+def writing(rng, count):
+    met = collections.Counter()
+    lines = [*edge_lines(rng, met), *room_lines(rng, met), *other_lines(rng, met)]
+    lines += [random_write(rng, met) for _ in range(count - len(lines))]
+    return lines, met
+
+
+# ---- records
+
+SETTINGS = (0, 1, 86400, 86401)
+EDGES = ('0', '1', 'setting', 'setting + 1')
+TIMERS = [timer for timer, _, _ in linkmodel.RULES.watch]
+MEETINGS = [(29, 4), (29, 1), (29, 2), (29, 5), (29, 10), (29, 15), (29, 6), (4, 6), (1, 5), (1, 10), (1, 15), (1, 6), (2, 6), (5, 6), (10, 6), (15, 6)]
+GROUNDS = ('octets', 'setting', 'state', 'running', 'left', 'module')
+
+
+class Records:
+    def __init__(self, rng):
+        self.rng, self.pool, self.met, self.lines = rng, Pool(rng), collections.Counter(), []
+
+    # Good ones: any states that may stand together, any seconds.
+
+    def good(self, li=None):
+        rng = self.rng
+        states = [rng.randrange(len(names)) for names in STATES.values()]
+        states[4] = states[4] if li is None else STATES['LI'].index(li)
+        if STATES['LI'][states[4]] in ('IDLE', 'END'):
+            states[:4] = [0] * 4
+        settings = [rng.choice((1, 2, 60, 86399, 86400, rng.randint(1, 86400))) for _ in TIMERS]
+        return self.fitted(Record(settings, [0] * 9, states))
+
+    def fitted(self, record):
+        """With seconds left where a timer runs by the watch table."""
+        watched = link_of(record).watched()
+        left = [self.rng.choice((1, setting, self.rng.randint(1, setting))) if timer in watched else 0 for timer, setting in zip(TIMERS, record.settings)]
+        return Record(record.settings, left, record.states)
+
+    def with_timer(self, place, runs):
+        while True:
+            record = self.good(self.rng.choice(('START', 'ACTIVE')) if runs else None)
+            if bool(record.left[place]) == runs:
+                return record
+
+    # One step off, or just not.
+
+    def steps(self):
+        for place, timer in enumerate(TIMERS):
+            for runs in (True, False):
+                how = 'runs' if runs else 'rests'
+                for setting in SETTINGS:
+                    record = self.with_timer(place, runs)
+                    record.settings[place] = setting
+                    record.left[place] = min(record.left[place], max(setting, 1)) if runs else 0
+                    yield f'{timer} {how}: setting {setting}', spelt(record)
+                for edge in EDGES:
+                    record = self.with_timer(place, runs)
+                    setting = record.settings[place]
+                    record.left[place] = {'0': 0, '1': 1, 'setting': setting, 'setting + 1': setting + 1}[edge]
+                    yield f'{timer} {how}: {edge} left', spelt(record)
+        for place, (module, names) in enumerate(STATES.items()):
+            for state in (len(names), len(names) + 1, 255):
+                record = self.good()
+                record.states[place] = state
+                yield f'{module}: no state {state - len(names) if state < 255 else 255}', spelt(record)
+            for state in range(len(names)):
+                record = self.good(self.rng.choice(('START', 'ACTIVE')) if module != 'LI' else None)
+                record.states[place] = state
+                yield f'{module}: another state', spelt(record)
+        for li, place in itertools.product(('IDLE', 'END'), range(4)):
+            module, names = list(STATES.items())[place]
+            for state in range(1, len(names)):
+                record = self.good(li)
+                record.states[place] = state
+                yield f'{li}: {module} {names[state]}', spelt(self.fitted(record))
+        for li in STATES['LI']:
+            record = self.good(li)
+            record.states[:4] = [0] * 4
+            yield f'{li}: all IDLE', spelt(self.fitted(record))
+        for size, li in itertools.product((0, 1, 76, 78, 154), STATES['LI']):
+            yield f'{size} octets', (spelt(self.good(li)) * 2)[:size]
+        yield 'good', spelt(self.good())
+
+    # Calls
+
+    def seconds(self, octets):
+        near = [left + step for left in taken_apart(octets).left if left for step in (-1, 0, 1)] if len(octets) == 77 else []
+        return self.rng.choice((0, 1, 86400, 86401, TOP - 1, *near, *near)) % TOP
+
+    def rows(self, record, asked):
+        """The events that the modules' states have a row for."""
+        link = link_of(taken_apart(record)) if len(record) == 77 else None
+        return [event for module, state, event in linkmodel.RULES.rows if link and link.state[module] == state and event.startswith('req/') == asked]
+
+    def request(self, record):
+        """A request, mostly one that the states have a row for, now and then with a field out of order; or none."""
+        rows = [event.split('/')[1] for event in self.rows(record, True)]
+        kind = self.rng.choice(rows if rows and self.rng.random() < 0.7 else KINDS['ground'])
+        pdu = Pdu(self.rng, 'ground', kind, self.rng.random() < 0.5)
+        if self.rng.random() < 0.4 and pdu.fields():
+            pdu.spoil(self.rng.choice(list(pdu.fields())))
+        if kind == 'event-contract' and self.rng.random() < 0.4:
+            pdu.n['what'] = 0
+        if self.rng.random() < 0.05:
+            pdu.n['kind'] = self.rng.choice((8, 255, TOP - 1))
+        return pdu.numbers()[:self.rng.choice((9, 9, 9, 4, 12))]
+
+    def octets(self, record):
+        """What may come: mostly what the states have a row for."""
+        rng, rows = self.rng, self.rows(record, False)
+        event = rng.choice(rows if rows and rng.random() < 0.6 else linkmodel.DOWNLINK)
+        return rng.choice(self.pool.bad['air'] if rng.random() < 0.1 else self.pool.of[event])
+
+    def make(self, word, name, record):
+        rng = self.rng
+        numbers = [self.seconds(record)] if word == 'elapse' else self.request(record) if word == 'request' else []
+        octets = self.octets(record) if word in ('start_confirm', 'data', 'air_abort') else b''
+        out = rng.randbytes(rng.choice((22, 22, 22, 22, 23, 40, 21, 0)))
+        refused = Calling(word, record, octets, out, numbers, hostmodel.RULES).refusals()
+        bad = grounds(record)
+        self.met[name] += 1
+        self.met.update([f'29 for {ground} alone' for ground in bad if len(bad) == 1])
+        self.met.update(f'{refused[0]} before {other}' for other in refused[1:])
+        self.met[f'{word} {"refused" if refused else "accepted"}'] += 1
+        self.lines.append(line_of(word, record, octets, out, numbers))
+
+    def open(self):
+        rng = self.rng
+        numbers = [rng.choice((1, 60, 86400, rng.randint(1, 86400))) for _ in range(9)]
+        draw = rng.random()
+        if draw < 0.5:
+            numbers[rng.randrange(9)] = rng.choice((0, 1, 86400, 86401, TOP - 1))
+        elif draw < 0.6:
+            numbers = (numbers * 2)[:rng.choice((0, 8, 10))]
+        link = rng.randbytes(rng.choice((77, 77, 77, 76, 78, 0)))
+        self.lines.append(line_of('open', link, b'', rng.randbytes(rng.choice((0, 22))), numbers))
+        self.met['open'] += 1
+
+    def all(self, count):
+        while len(self.lines) < count:
+            for name, record in self.steps():
+                for word in CALLS:
+                    self.make(word, name, record)
+            for _ in range(200):
+                self.make(self.rng.choice(list(CALLS)), 'good', spelt(self.good()))
+                self.make('request', 'good', spelt(self.good(self.rng.choice(('IDLE', 'ACTIVE', 'ACTIVE')))))
+                self.make('data', 'good', spelt(self.good('ACTIVE')))
+                self.open()
+        return self.lines, self.met
+
+
+def records(rng, count):
+    return Records(rng).all(count)
+
+
+# ---- what has to be met
+
+RECORDS_DUE = ([f'{timer} {how}: setting {setting}' for timer in TIMERS for how in ('runs', 'rests') for setting in SETTINGS]
+               + [f'{timer} {how}: {edge} left' for timer in TIMERS for how in ('runs', 'rests') for edge in EDGES]
+               + [f'{module}: no state {over}' for module in STATES for over in (0, 1, 255)]
+               + [f'{li}: {module} {state}' for li in ('IDLE', 'END') for module in linkmodel.MODULES for state in STATES[module][1:]]
+               + [f'{li}: all IDLE' for li in STATES['LI']] + [f'{size} octets' for size in (0, 76, 78)]
+               + [f'29 for {ground} alone' for ground in GROUNDS] + [f'{first} before {other}' for first, other in MEETINGS]
+               + [f'{word} {how}' for word in CALLS for how in ('accepted', 'refused')] + ['open'])
+WRITING_DUE = ([f'level {level}' for level in (-76, -75, 10000, 10001)] + [f'{kind}: a list of {count}' for kind in ('negative-ack', 'noncompliance') for count in (16, *COUNTS)]
+               + [f'a character {octet}' for octet in (127, 128, 255)] + ['an entry 0 over', 'an entry 1 over'] + [f'{family} {kind}: room {room}' for family, kind in ALL_KINDS for room in (-1, 'for it')]
+               + [f'air {kind}: {place} {edge}' for kind in REPORTS for place in FIX for edge in ('below', 'low', 'high', 'above')])

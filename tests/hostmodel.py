@@ -1,0 +1,328 @@
+"""A model of what include/adsc.h declares, on the lent buffers of a host, written from that header and page 01 alone.
+
+It shares nothing with the box it is compared with: PDUs are those of percoder.py, the link is that of linkmodel.py.
+
+    answer(line) -> the text that is due to a line of the program hostcall:
+
+`WORD LINK OCTETS OUT N N ..` calls adsc_WORD on buffers of these octets (each field may be empty, its space stays) and numbers, and is
+answered with `NUMBER LENGTH LINK OUT`: the function's result, the length of a write (999 before the call), both lent buffers after it.
+"""
+
+import dataclasses
+import re
+import types
+from collections import namedtuple
+
+import linkmodel
+import percoder
+from percoder import PRESENCE, TABLE
+
+BEFORE = 999
+
+# Numbers of a ground PDU and of an aircraft PDU, by their places (enum adsc_ground_place, enum adsc_air_place).
+GROUND = ('kind', 'what', 'scale', 'interval', 'address', 'projected-profile', 'ground-vector', 'air-vector', 'weather')
+AIR = ('kind', 'what', 'detail', 'count', 'elements', 'south', 'latitude', 'latitude-minutes', 'latitude-tenths', 'west', 'longitude',
+       'longitude-minutes', 'longitude-tenths', 'level', 'year', 'month', 'day', 'has-seconds', 'hours', 'minutes', 'seconds', 'accuracy',
+       'units', 'avoidance', 'address')
+LINK_OCTETS, ANSWER_OCTETS, TIMERS = 77, 22, 9
+
+# The states of a record, by their numbers (enum adsc_dc_state and the four below it).
+STATES = {
+    'DC': ('IDLE', 'PENDING', 'ACTIVE'),
+    'EC': ('IDLE', 'START-PENDING', 'PENDING', 'ACTIVE', 'CANCEL'),
+    'PC': ('IDLE', 'START-PENDING', 'PENDING', 'ACTIVE', 'CANCEL'),
+    'EM': ('IDLE', 'ACTIVE', 'MODIFY'),
+    'LI': ('IDLE', 'START', 'ACTIVE', 'END'),
+}
+
+# enum adsc_action
+ACTIONS = {'start-req': 1, 'data-req': 2, 'end-req': 3, 'abort-req': 4, 'ind': 5, 'ind abort': 6, 'ind peer-abort': 7, 'late': 8, 'stop': 16,
+           'start': 32}
+
+# The functions, and what the calls on a record are called in a script.
+CALLS = {'request': 'req', 'user_abort': 'user-abort', 'elapse': 'elapse', 'start_confirm': 'start-cnf', 'start_rejected': 'start-rej', 'data': 'data',
+         'end_confirm': 'end-cnf', 'peer_abort': 'peer-abort', 'air_abort': 'air-abort', 'down': 'down'}
+WORDS = ('write_ground', 'write_air', 'open', *CALLS)
+HEX = '((?:[0-9a-f]{2}){0,256})'
+LINE = re.compile(f'({"|".join(WORDS)}) {HEX} {HEX} {HEX}((?: {linkmodel.NUMBER}){{0,31}})')
+
+# "Order. Calls: .. 29, 4, 1 or 2, then fields", and "6 last" (adsc.h). Each is a function of Calling.
+ORDER = ('bad_record', 'long_elapse', 'not_listed', 'bad_fields', 'no_room')
+
+
+@dataclasses.dataclass(frozen=True)
+class Rules:
+    """What a test of a test alters. 29: "link record: running timers not those of the watch table, seconds left not 1..setting, a setting
+    not 1..86,400, or LI in IDLE or END with a module not IDLE"; "numbers that are no states; not of 77 octets" (adsc.h)."""
+    settings: tuple = (1, 86400)
+    left: tuple = (1, 0)                # from so many to so many more than the setting
+    resting: int = 0                    # seconds left where a timer does not run
+    ended: tuple = ('IDLE', 'END')      # where every module is IDLE
+    states: tuple = tuple(len(names) for names in STATES.values())
+    sizes: tuple = (LINK_OCTETS,)
+    watch: tuple = linkmodel.RULES.watch
+    order: tuple = ORDER
+    room: int = ANSWER_OCTETS
+    writer: type = percoder.Writer
+    signed: bool = True                 # "-75..10000 in two's complement"
+    told: int = BEFORE                  # the length after a refused write: as it was
+    short: int = 0                      # so many octets fewer than the PDU are room too
+    spoils: tuple = ()                  # refused: the buffers that it changes; 'past': a good write, what follows its end
+
+
+RULES = Rules()
+After = namedtuple('After', 'number length link out')
+
+
+# ---- writing
+
+def flat(places, numbers):
+    """"Of a shorter list the numbers that are not there count as 0, and what follows the last one is not looked at." """
+    return {name: numbers[place] if place < len(numbers) else 0 for place, name in enumerate(places)}
+
+
+def named(names, number):
+    """A number that names nothing is out of range (5) where it is sent."""
+    return names[number] if number < len(names) else 'nothing'
+
+
+def ground_value(numbers):
+    n = flat(GROUND, numbers)
+    interval = (named(('seconds', 'minutes'), n['scale']), n['interval'])
+    sent = interval != percoder.DEFAULTS['periodic-contract', 'interval']
+    moduli = {name: n[name] for name in GROUND[4:]}
+    name = named([name for name, _ in TABLE['ground'][2]], n['kind'])
+    return name, {
+        'cancel-contract': n['what'],
+        'demand-contract': {PRESENCE: n['what'], **dict.fromkeys(moduli)},
+        'event-contract': {PRESENCE: n['what'], 'waypoint-change': None, 'merit-change': None},
+        'modify-emergency': interval,
+        # one presence bit more than the host gives, for the interval
+        'periodic-contract': {PRESENCE: n['what'] + 128 * sent if n['what'] < 128 else -1, 'interval': interval, **moduli},
+        'provider-abort': n['what'],
+    }.get(name)
+
+
+def signed(number):
+    return number - (1 << 32 if number >> 31 else 0)
+
+
+def report_of(n, rules):
+    def angle(sign, name):
+        return {'sign': n[sign], 'degrees': n[name], 'minutes': n[name + '-minutes'], 'tenths': n[name + '-tenths']}
+
+    return {PRESENCE: n['elements'], 'address': n['address'],
+            'position': {'latitude': angle('south', 'latitude'), 'longitude': angle('west', 'longitude'),
+                         'level': signed(n['level']) if rules.signed else n['level']},
+            'time': {'date': {'year': n['year'], 'month': n['month'], 'day': n['day']},
+                     'clock': {PRESENCE: n['has-seconds'], 'hours': n['hours'], 'minutes': n['minutes'], 'seconds': n['seconds']}},
+            'merit': {'accuracy': n['accuracy'], 'first': n['units'], 'second': n['avoidance']}}
+
+
+def air_value(numbers, octets, rules=RULES):
+    n = flat(AIR, numbers)
+    count = min(n['count'], 17)         # over 16 is 12, however far
+    octets = octets + bytes(128)        # "A list with fewer octets than entries has zeros for the others."
+    names = [tuple(octets[8 * place:8 * place + 8]) for place in range(count)]
+    report = {PRESENCE: n['what'], 'ack': None, 'report': report_of(n, rules)}
+    name = named([name for name, _ in TABLE['air'][2]], n['kind'])
+    return name, {
+        'demand-report': report, 'emergency': report, 'periodic-report': report,
+        'event-report': {**report, 'event-type': n['detail']},
+        'negative-ack': {'request': n['what'], 'reason': (named([f'reason-{k}' for k in range(4)], n['detail']), names)},
+        'noncompliance': (named(('demand', 'event', 'periodic'), n['what']), list(octets[:count])),
+        'positive-ack': n['what'],
+        'provider-abort': n['what'],
+    }.get(name)
+
+
+def written(family, value, rules=RULES):
+    """The octets, or the number of a refusal."""
+    writer = rules.writer()
+    try:
+        writer.write(family + '*', value)
+    except percoder.Refused as refused:
+        return refused.number
+    return percoder.pack(writer.pieces)
+
+
+def spoilt(octets):
+    return bytes([octets[0] ^ 255]) + octets[1:] if octets else octets
+
+
+def write(family, value, link, out, rules):
+    pdu = written(family, value, rules)
+    if isinstance(pdu, bytes) and len(out) < len(pdu) - rules.short:
+        pdu = 6
+    if not isinstance(pdu, bytes):      # "A refused call leaves every buffer as it was"
+        return After(pdu, rules.told, link, spoilt(out) if 'out' in rules.spoils else out)
+    rest = out[len(pdu):]               # "octets past its end stay"
+    return After(0, len(pdu), link, pdu + (spoilt(rest) if 'past' in rules.spoils else rest))
+
+
+# ---- the link record
+
+Record = namedtuple('Record', 'settings left states')
+
+
+def numbers_of(octets):
+    """"numbers in four with the most significant first" """
+    return [int.from_bytes(octets[place:place + 4], 'big') for place in range(0, len(octets), 4)]
+
+
+def taken_apart(octets):
+    return Record(numbers_of(octets[:36]), numbers_of(octets[36:72]), list(octets[72:77]))
+
+
+def spelt(record):
+    return b''.join(number.to_bytes(4, 'big') for number in record.settings + record.left) + bytes(record.states)
+
+
+def link_of(record, rules=linkmodel.RULES):
+    """The link that a record spells, or None where a number is no state."""
+    if any(state >= len(names) for state, names in zip(record.states, STATES.values())):
+        return None
+    link = linkmodel.Link(rules, record.settings)
+    states = {module: names[state] for (module, names), state in zip(STATES.items(), record.states)}
+    link.li = states.pop('LI')
+    link.state = states
+    link.left = {timer: left for (timer, _, _), left in zip(rules.watch, record.left) if left}
+    return link
+
+
+def record_of(link):
+    timers = [timer for timer, _, _ in linkmodel.RULES.watch]
+    states = {**link.state, 'LI': link.li}
+    return Record([link.settings[timer] for timer in timers], [link.left.get(timer, 0) for timer in timers],
+                  [names.index(states[module]) for module, names in STATES.items()])
+
+
+def grounds(octets, rules=RULES):
+    """The grounds on which 29 refuses a record."""
+    if len(octets) not in rules.sizes:
+        return {'octets'}
+    record, found = taken_apart(octets.ljust(LINK_OCTETS, b'\0')), set()
+    if not all(rules.settings[0] <= setting <= rules.settings[1] for setting in record.settings):
+        found.add('setting')
+    if any(state >= most for state, most in zip(record.states, rules.states)):
+        return found | {'state'}
+    link = link_of(record, dataclasses.replace(linkmodel.RULES, watch=rules.watch))
+    if link is None:
+        return found
+    for (timer, _, _), setting, left in zip(rules.watch, record.settings, record.left):
+        if timer not in link.watched():
+            found |= {'running'} if left > rules.resting else set()
+        elif left == 0 and rules.left[0]:
+            found.add('running')        # it does not run, and should
+        elif not rules.left[0] <= left <= setting + rules.left[1]:
+            found.add('left')
+    if link.li in rules.ended and not link.all_idle():
+        found.add('module')
+    return found
+
+
+def answer_octets(entries):
+    """"0 to 3 the reason .., 4 how many actions there are" (enum adsc_answer_place); what is not used is 0."""
+    actions, reason, sent = [], 0, b''
+    for entry in entries:
+        word, _, rest = entry.partition(' ')
+        if word in ('start', 'stop'):
+            timers = [timer for timer, _, _ in linkmodel.RULES.watch]
+            actions.append(ACTIONS[word] + timers.index(rest))
+        elif entry.startswith('ind abort '):
+            actions.append(ACTIONS['ind abort'])
+            reason = int(entry[10:])
+        else:
+            actions.append(ACTIONS.get(entry) or ACTIONS[word])
+            sent = sent or (bytes.fromhex(rest) if word.endswith('-req') else b'')      # "goes with its first request"
+    return (reason.to_bytes(4, 'big') + bytes([len(actions)]) + bytes(actions).ljust(8, b'\0')
+            + bytes([len(sent)]) + sent.ljust(8, b'\0'))
+
+
+class Calling:
+    """A call on a record. Each refusal judges alone: their order is a table."""
+
+    def __init__(self, word, record, octets, out, numbers, rules):
+        self.record, self.octets, self.out, self.rules = record, octets, out, rules
+        self.box = linkmodel.Box()
+        self.box.link = link_of(taken_apart(record.ljust(LINK_OCTETS, b'\0')))
+        self.word = CALLS[word]
+        self.seconds = numbers[0] if numbers else 0
+        self.event, self.kind = None, self.word
+        if word == 'request':
+            self.asks(ground_value(numbers))
+
+    def asks(self, value):
+        """"A kind or a contract to cancel that names nothing is no request" """
+        name, content = value
+        self.event = 'req/' + name + ('/' + named(('event', 'periodic'), content) if name == 'cancel-contract' else '')
+        self.kind = linkmodel.REQUESTS.get(self.event, 'no request')
+        self.octets = written('ground', value)
+
+    def bad_record(self):
+        return 29 if grounds(self.record, self.rules) else 0
+
+    def long_elapse(self):
+        return 4 if self.word == 'elapse' and self.seconds > linkmodel.LIMITS['elapse'] else 0
+
+    def not_listed(self):
+        return self.box.not_listed(types.SimpleNamespace(word=self.word, kind=self.kind, event=self.event)) if self.box.link else 0
+
+    def bad_fields(self):
+        return self.octets if isinstance(self.octets, int) else 0
+
+    def no_room(self):
+        return 6 if len(self.out) < self.rules.room else 0
+
+    def refusals(self):
+        """All that would apply, in order."""
+        return [number for number in (getattr(self, judge)() for judge in self.rules.order) if number]
+
+    def made(self):
+        refused = self.refusals()
+        if refused:
+            spoils = self.rules.spoils
+            return After(refused[0], BEFORE, spoilt(self.record) if 'link' in spoils else self.record, spoilt(self.out) if 'out' in spoils else self.out)
+        link = self.box.link
+        entries = link.elapse(self.seconds) if self.word == 'elapse' else link.call(self.kind, self.octets)
+        return After(0, BEFORE, spelt(record_of(link)), answer_octets(entries) + self.out[ANSWER_OCTETS:])
+
+
+def opened(link, out, numbers):
+    """Refuses 3, and then 6, "a record that is not of 77 octets"."""
+    limits = linkmodel.LIMITS
+    if len(numbers) != TIMERS or not all(limits['least setting'] <= number <= limits['setting'] for number in numbers):
+        return After(3, BEFORE, link, out)
+    if len(link) != LINK_OCTETS:
+        return After(6, BEFORE, link, out)
+    return After(0, BEFORE, spelt(Record(numbers, [0] * TIMERS, [0] * len(STATES))), out)
+
+
+# ---- lines
+
+def parts(line):
+    """The word, link, octets, output and numbers of a line, or None."""
+    match = LINE.fullmatch(line.decode('latin-1'))
+    if match is None or len(line) > linkmodel.LIMITS['line']:
+        return None
+    numbers = [int(number) for number in match[5].split()]
+    fields = (bytes.fromhex(match[place]) for place in (2, 3, 4))
+    return (match[1], *fields, numbers) if all(number <= linkmodel.LIMITS['number'] for number in numbers) else None
+
+
+def call(word, link, octets, out, numbers, rules=RULES):
+    if word == 'write_ground':
+        return write('ground', ground_value(numbers), link, out, rules)
+    if word == 'write_air':
+        return write('air', air_value(numbers, octets, rules), link, out, rules)
+    if word == 'open':
+        return opened(link, out, numbers)
+    return Calling(word, link, octets, out, numbers, rules).made()
+
+
+def answer(line, rules=RULES):
+    asked = parts(line)
+    if asked is None:
+        return 'refused 17'
+    after = call(*asked, rules)
+    return f'{after.number} {after.length} {after.link.hex()} {after.out.hex()}'

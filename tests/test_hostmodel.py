@@ -1,0 +1,95 @@
+"""Checks of hostmodel.py against page 01 and include/adsc.h: answers worked out by hand.
+
+    test_hostmodel.py [FOLDER]
+
+With a folder the lines and their answers are written there as stdin and stdout: `rt` holds the program hostcall to them.
+"""
+
+import pathlib
+import sys
+
+from hostmodel import answer
+
+stored, failures = [], 0
+
+
+def check(what, line, wanted):
+    global failures
+    stored.append((line, wanted))
+    got = answer(line.encode())
+    if got != wanted:
+        failures += 1
+        print(f'{what}: got {got!r}, wanted {wanted!r}')
+
+
+A5 = 'a5' * 6
+
+# Writing. P1, P2, P7, P9, P10 (01, bench examples) from their numbers, at the front of an output whose other octets stay; other buffers stay.
+check('P1', f'write_air 77  {A5} 0', '0 1 77 00a5a5a5a5a5')
+check('P2', f'write_ground   {A5} 7 4', '0 1  74a5a5a5a5a5')
+check('P7', f'write_ground   {A5} 5 0 1 5', '0 2  5840a5a5a5a5')
+check('P9', f'write_ground   {A5} 4 128', '0 2  4080a5a5a5a5')
+check('P10', f'write_ground   {A5} 6 0 1 1', '0 3  640400a5a5a5')
+check('P13', 'write_air   ' + 'a5' * 15 + ' 1' + ' 0' * 13 + ' 1996 1 1', '0 14  08000000000000' + '00012c00000000a5')
+check('5 minutes are not sent', f'write_ground   {A5} 6 0 1 5', '0 2  6000a5a5a5a5')
+check('no room', 'write_ground   a5a5 6 0 1 1', '6 999  a5a5')
+check('just room', 'write_ground   a5a5a5 6 0 1 1', '0 3  640400')
+check('no such kind', f'write_ground   {A5} 8', f'5 999  {A5}')
+check('no such scale', f'write_ground   {A5} 5 0 2 5', f'5 999  {A5}')
+check('not carried', f'write_ground   {A5} 3 2', f'10 999  {A5}')
+check('bits that do not fit', f'write_ground   {A5} 3 130', f'5 999  {A5}')
+check('not carried before an interval', f'write_ground   {A5} 6 1 0 0', f'10 999  {A5}')
+check('an interval before a modulus', f'write_ground   {A5} 6 64 0 60 0', f'5 999  {A5}')
+check('no element', f'write_ground   {A5} 4 0', f'15 999  {A5}')
+check('a list of 17', f'write_air  00 {A5} 5 0 0 17', f'12 999  {A5}')
+check('a list of 2^32 - 1', f'write_air  00 {A5} 5 0 0 4294967295', f'12 999  {A5}')
+check('a request type before the list', f'write_air  00 {A5} 4 8 2 17', f'5 999  {A5}')
+check('a list before its entries', f'write_air  ff {A5} 5 0 0 17', f'12 999  {A5}')
+check('two entries, one of them missing', f'write_air  06 {A5} 5 0 0 2', '0 3  280260a5a5a5')
+for level, number in ((-76, 5), (-75, 0), (10000, 0), (10001, 5)):
+    wanted = f'5 999  {A5}' if number else f'6 999  {A5}'       # 6 comes last: the report has 14 octets
+    check(f'level {level}', f'write_air   {A5} 1' + ' 0' * 12 + f' {level % 2 ** 32} 1996 1 1', wanted)
+
+# Records: nine settings of 60, the seconds left, the states of DC, EC, PC, EM and LI.
+NONE, OUT = [0] * 9, 'a5' * 22
+
+
+def record(left, states, settings=(60,) * 9):
+    return ''.join(f'{number:08x}' for number in (*settings, *left)) + ''.join(f'{state:02x}' for state in states)
+
+
+def left(place, seconds):
+    return [seconds if at == place else 0 for at in range(9)]
+
+
+FRESH, PENDING = record(NONE, (0, 0, 0, 0, 0)), record(left(0, 60), (1, 0, 0, 0, 1))
+check('open', 'open ' + '00' * 77 + '   ' + ' '.join(['60'] * 9), f'0 999 {FRESH} ')
+check('open: a setting', f'open {FRESH}   ' + ' '.join(['86401'] * 9), f'3 999 {FRESH} ')
+check('open: eight settings', f'open {FRESH}   ' + ' '.join(['60'] * 8), f'3 999 {FRESH} ')
+check('open: 76 octets', f'open {FRESH[2:]}   ' + ' '.join(['60'] * 9), f'6 999 {FRESH[2:]} ')
+check('a demand contract', f'request {FRESH}  {OUT} 3', f'0 999 {PENDING} ' + '00000000 02 0120000000000000 02 3000000000000000'.replace(' ', ''))
+check('59 seconds', f'elapse {PENDING}  {OUT} 59', '0 999 ' + record(left(0, 1), (1, 0, 0, 0, 1)) + ' ' + '00' * 22)
+check('60 seconds', f'elapse {PENDING}  {OUT}ff 60', f'0 999 {FRESH} ' + '00000004 03 1004060000000000 01 7400000000000000 ff'.replace(' ', ''))
+for what, bad in {
+        'DC1 does not run': record(NONE, (1, 0, 0, 0, 1)), 'DC2 runs too': record([60, 1] + [0] * 7, (1, 0, 0, 0, 1)),
+        '61 left': record(left(0, 61), (1, 0, 0, 0, 1)), 'a setting of 0': record(NONE, (0, 0, 0, 0, 0), (60,) * 8 + (0,)),
+        'a setting of 86,401': record(NONE, (0, 0, 0, 0, 0), (86401,) + (60,) * 8), 'IDLE': record(left(0, 60), (1, 0, 0, 0, 0)),
+        'END': record(left(0, 60), (1, 0, 0, 0, 3)), 'no state': record(NONE, (3, 0, 0, 0, 1)), 'no state of LI': record(NONE, (0, 0, 0, 0, 4)),
+        'PC2 in an emergency': record([0] * 5 + [1, 0, 1, 0], (0, 0, 3, 1, 2)), '76 octets': PENDING[2:], '78 octets': PENDING + '00', 'nothing': ''}.items():
+    for call in ('elapse {}  {} 86401', 'user_abort {}  {}', 'end_confirm {}  {}', 'data {} 00 {}', 'request {}  {} 3 130'):
+        for out in (OUT, ''):
+            check(f'29: {what}', call.format(bad, out), f'29 999 {bad} {out}')
+check('START with all IDLE is good', 'elapse ' + record(NONE, (0, 0, 0, 0, 1)) + f'  {OUT} 1', '0 999 ' + record(NONE, (0, 0, 0, 0, 1)) + ' ' + '00' * 22)
+check('4 before 6', f'elapse {FRESH}   86401', f'4 999 {FRESH} ')
+check('1 before a field', f'request {PENDING}  {OUT} 3 130', f'1 999 {PENDING} {OUT}')
+check('a field before 6', f'request {FRESH}   3 130', f'5 999 {FRESH} ')
+check('6 last', f'request {FRESH}   3 0', f'6 999 {FRESH} ')
+check('no line', 'elapse', 'refused 17')
+
+if failures:
+    print(f'hostmodel: {failures} of {len(stored)} checks failed')
+    sys.exit(1)
+for folder in sys.argv[1:]:
+    for name, texts in zip(('stdin', 'stdout'), zip(*stored)):
+        pathlib.Path(folder, name).write_text(''.join(text + '\n' for text in texts))
+print(f'hostmodel: {len(stored)} checks passed')
