@@ -22,12 +22,16 @@ import hostlines
 import hostmodel
 import percoder
 from hostmodel import ORDER, RULES, STATES
+from linkmutants import replaced
+from percoder import PRESENCE
 
 REFUSALS = {'write_ground': (5, 6, 10, 15), 'write_air': (5, 6, 10, 12), 'open': (3, 6), 'request': (29, 1, 5, 10, 15, 6), 'elapse': (29, 4, 6),
             **{word: (29, 1, 6) if word == 'user_abort' else (29, 2, 6) for word in hostmodel.CALLS if word not in ('request', 'elapse')}}
-UNREADABLE = (b'', b'write', b'write_ground', b'write_ground  ', b'Open    1', b'open   1', b'open    1 ', b'open    01', b'open    4294967296', b'open 0   1', b'open AA   1',
-              b'open a a a 1', b'open' + b' ' * 3 + b' 1' * 32, b'elapse ' + b'00' * 257 + b'  ', b'elapse    1\r', b'down   \0', b'downs   ', b'adsc_down   ', b'down   ' + b' 1' * 2100)
-READABLE = (b'down   ', b'elapse   ', b'open   ' + b' 1' * 31, b'elapse ' + b'00' * 256 + b'  ', b'request    6 0 1 1')
+ONES = b' 1' * 31
+UNREADABLE = (b'', b'write', b'write_ground', b'write_ground  ', b'Open    1', b'open   1', b'open    1 ', b'open    01', b'open    4294967296',
+              b'open 0   1', b'open AA   1', b'open a a a 1', b'open   ' + ONES + b' 1', b'elapse ' + b'00' * 257 + b'  ', b'elapse    1\r',
+              b'down   \0', b'downs   ', b'adsc_down   ', b'down   ' + ONES * 70)
+READABLE = (b'down   ', b'elapse   ', b'open   ' + ONES, b'elapse ' + b'00' * 256 + b'  ', b'request    6 0 1 1')
 
 
 # ---- models with one rule changed
@@ -60,19 +64,22 @@ class RangesLast(percoder.Writer):
             raise percoder.Refused(5)
 
 
+def fitting(value, optional):
+    """The presence bits without those that do not fit."""
+    return {**value, PRESENCE: value[PRESENCE] % (1 << len(optional))} if PRESENCE in value else value
+
+
 class RangeLast(percoder.Writer):
     """Presence bits that do not fit are judged by those that do."""
     def present(self, form, value, optional):
-        most = 1 << len(optional)
-        if percoder.PRESENCE in value and value[percoder.PRESENCE] >= most:
-            percoder.judge_presence(form, optional, super().present(form, {**value, percoder.PRESENCE: value[percoder.PRESENCE] % most}, optional))
+        percoder.judge_presence(form, optional, super().present(form, fitting(value, optional), optional))
         return super().present(form, value, optional)
 
 
 class RangeCut(percoder.Writer):
     """Presence bits that do not fit are left out."""
     def present(self, form, value, optional):
-        return super().present(form, {**value, percoder.PRESENCE: value[percoder.PRESENCE] % (1 << len(optional))} if percoder.PRESENCE in value else value, optional)
+        return super().present(form, fitting(value, optional), optional)
 
 
 class CountLast(percoder.Writer):
@@ -95,11 +102,10 @@ class AbsentJudged(percoder.Writer):
 class AnyElement(percoder.Writer):
     """An event contract with no element is taken."""
     def fields(self, form, value, optional, required):
-        if form in percoder.NEEDS_ONE and value.get(percoder.PRESENCE) == 0:
-            value = {}
+        if form in percoder.NEEDS_ONE and value.get(PRESENCE) == 0:
             self.put('presence', form, 0, len(optional))
-            return
-        super().fields(form, value, optional, required)
+        else:
+            super().fields(form, value, optional, required)
 
 
 @contextlib.contextmanager
@@ -119,7 +125,7 @@ def ruled(**fields):
 
 def without_state(place, state):
     timer, states, also = RULES.watch[place]
-    return RULES.watch[:place] + ((timer, tuple(other for other in states if other != state), also),) + RULES.watch[place + 1:]
+    return replaced(RULES.watch, place, (timer, tuple(other for other in states if other != state), also))
 
 
 def first(judge):
@@ -169,7 +175,7 @@ def changes():
         for state in states:
             yield f'records: {timer} need not run in {state}', ruled(watch=without_state(place, state))
         if also:
-            yield f'records: {timer} runs without {also}', ruled(watch=RULES.watch[:place] + ((timer, states, None),) + RULES.watch[place + 1:])
+            yield f'records: {timer} runs without {also}', ruled(watch=replaced(RULES.watch, place, (timer, states, None)))
     for judge in ORDER[1:]:
         yield f'records: {judge} before 29', ruled(order=first(judge))
     yield 'records: 6 before 4', ruled(order=('bad_record', 'no_room', 'long_elapse', 'not_listed', 'bad_fields'))
@@ -245,7 +251,8 @@ def show_met(numbers, met):
     print('29 before another:', *(f'{other} {met[f"29 before {other}"]}' for first, other in hostlines.MEETINGS if first == 29))
     for edges, what in ((hostlines.SETTINGS, 'setting {}'), (hostlines.EDGES, '{} left')):
         for how in ('runs', 'rests'):
-            print(f'a timer {how}:', *(f'{what.format(edge)} {sum(met[f"{timer} {how}: {what.format(edge)}"] for timer in hostlines.TIMERS)},' for edge in edges))
+            names = [what.format(edge) for edge in edges]
+            print(f'a timer {how}:', *(f'{name} {sum(met[f"{timer} {how}: {name}"] for timer in hostlines.TIMERS)},' for name in names))
     print(f'edges and grounds met: writing {sum(met[name] > 0 for name in hostlines.WRITING_DUE)}/{len(hostlines.WRITING_DUE)},',
           f'records {sum(met[name] > 0 for name in hostlines.RECORDS_DUE)}/{len(hostlines.RECORDS_DUE)}')
 

@@ -95,8 +95,8 @@ class Pdu:
         form = fields_of(self.family, self.kind, self.n)[place]
         if form == 'mask':
             carried = MASKS[self.kind][1]
-            return self.rng.choice((carried, self.rng.randrange(2048) & carried or carried)) if self.kind == 'event-contract' else self.rng.choice(
-                (carried, 0, self.rng.randrange(128) & carried))
+            some = self.rng.randrange(2048) & carried
+            return self.rng.choice((carried, some or carried) if self.kind == 'event-contract' else (carried, 0, some))
         low, high = RANGES[form]
         return self.rng.choice((low, high, self.rng.randint(low, high))) % TOP
 
@@ -239,9 +239,10 @@ def writing(rng, count):
 # ---- records
 
 SETTINGS = (0, 1, 86400, 86401)
-EDGES = ('0', '1', 'setting', 'setting + 1')
+EDGES = ('0', '1', 'setting', 'setting + 1', '86400 of 86400', '86401 of 86400')
 TIMERS = [timer for timer, _, _ in linkmodel.RULES.watch]
-MEETINGS = [(29, 4), (29, 1), (29, 2), (29, 5), (29, 10), (29, 15), (29, 6), (4, 6), (1, 5), (1, 10), (1, 15), (1, 6), (2, 6), (5, 6), (10, 6), (15, 6)]
+MEETINGS = [(29, 4), (29, 1), (29, 2), (29, 5), (29, 10), (29, 15), (29, 6),
+            (4, 6), (1, 5), (1, 10), (1, 15), (1, 6), (2, 6), (5, 6), (10, 6), (15, 6)]
 GROUNDS = ('octets', 'setting', 'state', 'running', 'left', 'module')
 
 
@@ -263,7 +264,8 @@ class Records:
     def fitted(self, record):
         """With seconds left where a timer runs by the watch table."""
         watched = link_of(record).watched()
-        left = [self.rng.choice((1, setting, self.rng.randint(1, setting))) if timer in watched else 0 for timer, setting in zip(TIMERS, record.settings)]
+        left = [self.rng.choice((1, setting, self.rng.randint(1, setting))) if timer in watched else 0
+                for timer, setting in zip(TIMERS, record.settings)]
         return Record(record.settings, left, record.states)
 
     def with_timer(self, place, runs):
@@ -285,8 +287,10 @@ class Records:
                     yield f'{timer} {how}: setting {setting}', spelt(record)
                 for edge in EDGES:
                     record = self.with_timer(place, runs)
+                    record.settings[place] = 86400 if edge.endswith('of 86400') else record.settings[place]
                     setting = record.settings[place]
-                    record.left[place] = {'0': 0, '1': 1, 'setting': setting, 'setting + 1': setting + 1}[edge]
+                    seconds = {'0': 0, '1': 1, 'setting': setting, 'setting + 1': setting + 1}
+                    record.left[place] = seconds.get(edge) if edge in seconds else int(edge[:5])
                     yield f'{timer} {how}: {edge} left', spelt(record)
         for place, (module, names) in enumerate(STATES.items()):
             for state in (len(names), len(names) + 1, 255):
@@ -320,7 +324,8 @@ class Records:
     def rows(self, record, asked):
         """The events that the modules' states have a row for."""
         link = link_of(taken_apart(record)) if len(record) == 77 else None
-        return [event for module, state, event in linkmodel.RULES.rows if link and link.state[module] == state and event.startswith('req/') == asked]
+        return [event for module, state, event in linkmodel.RULES.rows
+                if link and link.state[module] == state and event.startswith('req/') == asked]
 
     def request(self, record):
         """A request, mostly one that the states have a row for, now and then with a field out of order; or none."""
@@ -392,6 +397,8 @@ RECORDS_DUE = ([f'{timer} {how}: setting {setting}' for timer in TIMERS for how 
                + [f'{li}: all IDLE' for li in STATES['LI']] + [f'{size} octets' for size in (0, 76, 78)]
                + [f'29 for {ground} alone' for ground in GROUNDS] + [f'{first} before {other}' for first, other in MEETINGS]
                + [f'{word} {how}' for word in CALLS for how in ('accepted', 'refused')] + ['open'])
-WRITING_DUE = ([f'level {level}' for level in (-76, -75, 10000, 10001)] + [f'{kind}: a list of {count}' for kind in ('negative-ack', 'noncompliance') for count in (16, *COUNTS)]
-               + [f'a character {octet}' for octet in (127, 128, 255)] + ['an entry 0 over', 'an entry 1 over'] + [f'{family} {kind}: room {room}' for family, kind in ALL_KINDS for room in (-1, 'for it')]
+WRITING_DUE = ([f'level {level}' for level in (-76, -75, 10000, 10001)]
+               + [f'{kind}: a list of {count}' for kind in ('negative-ack', 'noncompliance') for count in (16, *COUNTS)]
+               + [f'a character {octet}' for octet in (127, 128, 255)] + ['an entry 0 over', 'an entry 1 over']
+               + [f'{family} {kind}: room {room}' for family, kind in ALL_KINDS for room in (-1, 'for it')]
                + [f'air {kind}: {place} {edge}' for kind in REPORTS for place in FIX for edge in ('below', 'low', 'high', 'above')])

@@ -40,8 +40,8 @@ ACTIONS = {'start-req': 1, 'data-req': 2, 'end-req': 3, 'abort-req': 4, 'ind': 5
            'start': 32}
 
 # The functions, and what the calls on a record are called in a script.
-CALLS = {'request': 'req', 'user_abort': 'user-abort', 'elapse': 'elapse', 'start_confirm': 'start-cnf', 'start_rejected': 'start-rej', 'data': 'data',
-         'end_confirm': 'end-cnf', 'peer_abort': 'peer-abort', 'air_abort': 'air-abort', 'down': 'down'}
+CALLS = {'request': 'req', 'user_abort': 'user-abort', 'elapse': 'elapse', 'start_confirm': 'start-cnf', 'start_rejected': 'start-rej',
+         'data': 'data', 'end_confirm': 'end-cnf', 'peer_abort': 'peer-abort', 'air_abort': 'air-abort', 'down': 'down'}
 WORDS = ('write_ground', 'write_air', 'open', *CALLS)
 HEX = '((?:[0-9a-f]{2}){0,256})'
 LINE = re.compile(f'({"|".join(WORDS)}) {HEX} {HEX} {HEX}((?: {linkmodel.NUMBER}){{0,31}})')
@@ -67,7 +67,10 @@ class Rules:
     signed: bool = True                 # "-75..10000 in two's complement"
     told: int = BEFORE                  # the length after a refused write: as it was
     short: int = 0                      # so many octets fewer than the PDU are room too
-    spoils: tuple = ()                  # refused: the buffers that it changes; 'past': a good write, what follows its end
+    spoils: tuple = ()                  # what changes though it stays: 'link', 'out', and 'past', what follows a good write
+
+    def left_as(self, what, octets):
+        return bytes([octets[0] ^ 255]) + octets[1:] if octets and what in self.spoils else octets
 
 
 RULES = Rules()
@@ -146,18 +149,13 @@ def written(family, value, rules=RULES):
     return percoder.pack(writer.pieces)
 
 
-def spoilt(octets):
-    return bytes([octets[0] ^ 255]) + octets[1:] if octets else octets
-
-
 def write(family, value, link, out, rules):
     pdu = written(family, value, rules)
     if isinstance(pdu, bytes) and len(out) < len(pdu) - rules.short:
         pdu = 6
     if not isinstance(pdu, bytes):      # "A refused call leaves every buffer as it was"
-        return After(pdu, rules.told, link, spoilt(out) if 'out' in rules.spoils else out)
-    rest = out[len(pdu):]               # "octets past its end stay"
-    return After(0, len(pdu), link, pdu + (spoilt(rest) if 'past' in rules.spoils else rest))
+        return After(pdu, rules.told, link, rules.left_as('out', out))
+    return After(0, len(pdu), link, pdu + rules.left_as('past', out[len(pdu):]))       # "octets past its end stay"
 
 
 # ---- the link record
@@ -281,8 +279,7 @@ class Calling:
     def made(self):
         refused = self.refusals()
         if refused:
-            spoils = self.rules.spoils
-            return After(refused[0], BEFORE, spoilt(self.record) if 'link' in spoils else self.record, spoilt(self.out) if 'out' in spoils else self.out)
+            return After(refused[0], BEFORE, self.rules.left_as('link', self.record), self.rules.left_as('out', self.out))
         link = self.box.link
         entries = link.elapse(self.seconds) if self.word == 'elapse' else link.call(self.kind, self.octets)
         return After(0, BEFORE, spelt(record_of(link)), answer_octets(entries) + self.out[ANSWER_OCTETS:])

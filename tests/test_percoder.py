@@ -4,7 +4,7 @@ import random
 import sys
 
 from compare_coder import random_value
-from percoder import Refused, read, write
+from percoder import PRESENCE, Refused, read, write
 
 checks = failures = 0
 
@@ -172,6 +172,21 @@ for what, family, value, wanted in [
         ('request type before count', 'air', names(17, request=8), 5),
         ('presence before interval', 'ground',
          ('periodic-contract', {'interval': ('seconds', 0), 'extended-profile': 1}), 10)]:
+    check(what, refusal(write, family, value), wanted)
+
+# Presence bits as one number, as a host gives them: judged whole at their place, and what they do not announce is no part of the value.
+WITH_BITS = {PRESENCE: 64, **FULL, 'weather': None}
+check('presence bits', refusal(write, 'air', plain(WITH_BITS)), write('air', plain(FULL)))
+check('presence bits, one absent', refusal(write, 'air', plain(report(**{PRESENCE: 0, 'address': 2 ** 24}))), write('air', plain(report())))
+for what, family, value, wanted in [
+        ('presence bit not carried', 'air', plain({**WITH_BITS, PRESENCE: 4}), 10),
+        ('presence bits that do not fit', 'air', plain({**WITH_BITS, PRESENCE: 128}), 5),
+        ('presence bits that do not fit, one not carried', 'air', plain({**WITH_BITS, PRESENCE: 132}), 5),
+        ('presence bits below 0', 'air', plain({**WITH_BITS, PRESENCE: -1}), 5),
+        ('presence bits before level', 'air', plain(report(20000, **{PRESENCE: 4})), 10),
+        ('ack before presence bits', 'air', ('demand-report', {PRESENCE: 2, 'ack': None, 'report': report(**{PRESENCE: 4})}), 5),
+        ('no presence bit', 'ground', ('event-contract', {PRESENCE: 0}), 15),
+        ('eleven presence bits', 'ground', ('event-contract', {PRESENCE: 2048}), 5)]:
     check(what, refusal(write, family, value), wanted)
 
 rng = random.Random(691)
