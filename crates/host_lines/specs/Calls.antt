@@ -2,7 +2,7 @@
 use mathlib.Core.Path.{_≡_}
 use mathlib.Core.List.{List, [], _∷_}
 use Prim.Native.Nat.{ℕ}
-use lib.Dec.{eqb}
+use lib.Dec.{eqb, ltb}
 use lib.ListN.{getD}
 use Rattle.text.specs.Letters.{ascii}
 use Rattle.text.specs.Text.{pick}
@@ -10,6 +10,7 @@ use Rattle.text.specs.Words.{foundFrom}
 use Rattle.per.specs.Writing.{Delivered, writePdu}
 use Rattle.pdu.specs.UplinkTable.{groundC}
 use Rattle.pdu.specs.DownlinkTable.{airC}
+use Rattle.ground.specs.declared.call.Call.{Call}
 use Rattle.ground.specs.declared.call.Call.the-variants.{Request, UserAbort, Elapse, StartConfirm, StartRejected, Data, EndConfirm, PeerAbort, AirAbort, Down}
 use Rattle.host_numbers.specs.UplinkNumbers.{groundAt}
 use Rattle.host_numbers.specs.DownlinkNumbers.{airAt}
@@ -19,8 +20,8 @@ use Rattle.host_lines.specs.declared.call.Called.{Called}
 
 abbrev pub hostWords : List (List ℕ)
 hostWords =
-    ascii "write_ground" ∷ ascii "write_air" ∷ ascii "open" ∷ ascii "request" ∷ ascii "user_abort" ∷ ascii "elapse" ∷ ascii "start_confirm"
-    ∷ ascii "start_rejected" ∷ ascii "data" ∷ ascii "end_confirm" ∷ ascii "peer_abort" ∷ ascii "air_abort" ∷ ascii "down" ∷ []
+    ascii "write_ground" ∷ ascii "write_air" ∷ ascii "open" ∷ ascii "request" ∷ ascii "elapse" ∷ ascii "start_confirm" ∷ ascii "data" ∷ ascii "air_abort"
+    ∷ ascii "user_abort" ∷ ascii "start_rejected" ∷ ascii "end_confirm" ∷ ascii "peer_abort" ∷ ascii "down" ∷ []
 
 -- the number of a word in that order from 1 on, 0 for any other text
 unfoldable pub wordOf : List ℕ → ℕ
@@ -44,20 +45,22 @@ onLink d = record { number = d .number; length = 999; link = d .link; out = d .a
 abbrev pub opens : Opening → List ℕ → Done
 opens o out = record { number = o .number; link = o .link; answer = out }
 
--- by its word; `elapse` takes the first number, and one that is not there counts as 0
+-- the calls that take octets, and those that take nothing, by their words
+unfoldable pub octetsCall : ℕ → Call
+octetsCall w = pick (eqb w 6) StartConfirm (pick (eqb w 7) Data AirAbort)
+
+unfoldable pub plainCall : ℕ → Call
+plainCall w = pick (eqb w 9) UserAbort (pick (eqb w 10) StartRejected (pick (eqb w 11) EndConfirm (pick (eqb w 12) PeerAbort Down)))
+
+unfoldable pub otherDone : ℕ → List ℕ → List ℕ → List ℕ → Done
+otherDone w link octets out = pick (ltb w 9) (hosted (octetsCall w) octets link out) (hosted (plainCall w) [] link out)
+
+-- `elapse` takes the first number; one that is not there counts as 0
 unfoldable pub linkDone : ℕ → List ℕ → List ℕ → List ℕ → List ℕ → Done
 linkDone w link octets numbers out =
     pick (eqb w 3) (opens (made numbers link) out)
     (pick (eqb w 4) (hosted (Request (groundAt numbers)) [] link out)
-    (pick (eqb w 5) (hosted UserAbort [] link out)
-    (pick (eqb w 6) (hosted (Elapse (getD numbers 0 0)) [] link out)
-    (pick (eqb w 7) (hosted StartConfirm octets link out)
-    (pick (eqb w 8) (hosted StartRejected [] link out)
-    (pick (eqb w 9) (hosted Data octets link out)
-    (pick (eqb w 10) (hosted EndConfirm [] link out)
-    (pick (eqb w 11) (hosted PeerAbort [] link out)
-    (pick (eqb w 12) (hosted AirAbort octets link out)
-    (hosted Down [] link out))))))))))
+    (pick (eqb w 5) (hosted (Elapse (getD numbers 0 0)) [] link out) (otherDone w link octets out)))
 
 unfoldable pub called : ℕ → List ℕ → List ℕ → List ℕ → List ℕ → After
 called w link octets numbers out =

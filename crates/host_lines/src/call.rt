@@ -5,38 +5,37 @@ use adschost::messages::adsc_write_ground;
 use host_numbers::numbers::number;
 use text::words::find;
 ghost use mathlib.Core.Path.{_≡_};
-ghost use Rattle.host_record.specs.Hosting.{Hosts};
+ghost use mathlib.Core.List.{[]};
+ghost use Rattle.host_record.specs.Hosting.{hosted, Hosts};
 ghost use Rattle.per.specs.Writing.{writePdu};
 ghost use Rattle.pdu.specs.UplinkTable.{groundC};
 ghost use Rattle.pdu.specs.DownlinkTable.{airC};
 ghost use Rattle.host_numbers.specs.UplinkNumbers.{groundAt};
 ghost use Rattle.host_numbers.specs.DownlinkNumbers.{airAt};
 ghost use Rattle.adschost.specs.Flatness.{WritesFlat};
-ghost use Rattle.host_lines.specs.Calls.{wordOf, linkDone, called, Does};
+ghost use Rattle.host_lines.specs.Calls.{wordOf, plainCall, octetsCall, otherDone, linkDone, called, Does};
 
-pub(crate) const WRITE_GROUND: usize = 1;
+const WRITE_GROUND: usize = 1;
 
-pub(crate) const WRITE_AIR: usize = 2;
+const WRITE_AIR: usize = 2;
 
-pub(crate) const OPEN: usize = 3;
+const OPEN: usize = 3;
 
-pub(crate) const REQUEST: usize = 4;
+const REQUEST: usize = 4;
 
-pub(crate) const USER_ABORT: usize = 5;
+const ELAPSE: usize = 5;
 
-pub(crate) const ELAPSE: usize = 6;
+const START_CONFIRM: usize = 6;
 
-pub(crate) const START_CONFIRM: usize = 7;
+const DATA: usize = 7;
 
-pub(crate) const START_REJECTED: usize = 8;
+const USER_ABORT: usize = 9;
 
-pub(crate) const DATA: usize = 9;
+const START_REJECTED: usize = 10;
 
-pub(crate) const END_CONFIRM: usize = 10;
+const END_CONFIRM: usize = 11;
 
-pub(crate) const PEER_ABORT: usize = 11;
-
-pub(crate) const AIR_ABORT: usize = 12;
+const PEER_ABORT: usize = 12;
 
 // What stands in the place of the length before a call: more than any PDU has.
 const BEFORE: usize = 999;
@@ -53,8 +52,8 @@ pub(crate) fn word_of(w: &[u8]) -> usize
 {
     find(
         w,
-        b"write_groundwrite_airopenrequestuser_abortelapsestart_confirmstart_rejecteddataend_confirmpeer_abortair_abortdown",
-        &[0, 0, 12, 21, 25, 32, 42, 48, 61, 75, 79, 90, 100, 109, 113],
+        b"write_groundwrite_airopenrequestelapsestart_confirmdataair_abortuser_abortstart_rejectedend_confirmpeer_abortdown",
+        &[0, 0, 12, 21, 25, 32, 38, 51, 55, 64, 74, 88, 99, 109, 113],
     )
 }
 
@@ -74,22 +73,48 @@ fn write_air(octets: &[u8], numbers: &[u32], out: &mut [u8]) -> Called
     Called { number, length }
 }
 
-// The calls on a record; the last word is `down`.
+// The calls that take nothing; the last word is `down`.
+fn plain_call(w: usize, link: &mut [u8], out: &mut [u8]) -> u8
+    ensures { λ r. ⌜ Hosts (hosted (plainCall w) [] (now (link .entry)) (now (out .entry))) r (now (link .exit)) (now (out .exit)) ⌝ }
+{
+    match w {
+        USER_ABORT => adsc_user_abort(link, out),
+        START_REJECTED => adsc_start_rejected(link, out),
+        END_CONFIRM => adsc_end_confirm(link, out),
+        PEER_ABORT => adsc_peer_abort(link, out),
+        _ => adsc_down(link, out),
+    }
+}
+
+// The calls that take octets; the last word of them is `air_abort`.
+fn octets_call(w: usize, link: &mut [u8], octets: &[u8], out: &mut [u8]) -> u8
+    ensures { λ r. ⌜ Hosts (hosted (octetsCall w) (now (octets .entry)) (now (link .entry)) (now (out .entry))) r (now (link .exit)) (now (out .exit)) ⌝ }
+{
+    match w {
+        START_CONFIRM => adsc_start_confirm(link, octets, out),
+        DATA => adsc_data(link, octets, out),
+        _ => adsc_air_abort(link, octets, out),
+    }
+}
+
+fn other_call(w: usize, link: &mut [u8], octets: &[u8], out: &mut [u8]) -> u8
+    ensures { λ r. ⌜ Hosts (otherDone w (now (link .entry)) (now (octets .entry)) (now (out .entry))) r (now (link .exit)) (now (out .exit)) ⌝ }
+{
+    if w < USER_ABORT {
+        return octets_call(w, link, octets, out);
+    }
+    plain_call(w, link, out)
+}
+
+// The calls on a record.
 fn link_call(w: usize, link: &mut [u8], octets: &[u8], numbers: &[u32], out: &mut [u8]) -> u8
     ensures { λ r. ⌜ Hosts (linkDone w (now (link .entry)) (now (octets .entry)) (now (numbers .entry)) (now (out .entry))) r (now (link .exit)) (now (out .exit)) ⌝ }
 {
     match w {
         OPEN => adsc_open(numbers, link),
         REQUEST => adsc_request(link, numbers, out),
-        USER_ABORT => adsc_user_abort(link, out),
         ELAPSE => adsc_elapse(link, number(numbers, 0), out),
-        START_CONFIRM => adsc_start_confirm(link, octets, out),
-        START_REJECTED => adsc_start_rejected(link, out),
-        DATA => adsc_data(link, octets, out),
-        END_CONFIRM => adsc_end_confirm(link, out),
-        PEER_ABORT => adsc_peer_abort(link, out),
-        AIR_ABORT => adsc_air_abort(link, octets, out),
-        _ => adsc_down(link, out),
+        _ => other_call(w, link, octets, out),
     }
 }
 

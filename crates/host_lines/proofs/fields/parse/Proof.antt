@@ -122,9 +122,9 @@ returns-4 c = let s = c .before .before .before .before .before .before .before 
     let n = c .numbers-in in
     record {
       is = asked-all s (x .result) _ _ (pre .0) (x .ensures) (not-false _ (c .before .before .before .before .before .before .before .before .before .before .before .before .before .before .before .before .if1 .left)) t (part-all s (x .result .used) (length s) refl) (y .result) _ _ (pre .1) (y .ensures) (not-false _ (c .before .before .before .before .before .before .before .before .before .if2 .left)) u (part-all t (y .result .used) (length t) refl) (z .result) _ _ (pre .2) (z .ensures) (not-false _ (c .before .before .if3 .left)) _ (part-all u (z .result .used) (length u) refl) (n .result) (n .ensures);
-      link-fits = omega (arith, x .ensures .fits, pre .0);
-      octets-fits = omega (arith, y .ensures .fits, pre .1);
-      out-fits = omega (arith, z .ensures .fits, pre .2);
+      link-fits = rw (pre .0) at (x .ensures .fits);
+      octets-fits = rw (pre .1) at (y .ensures .fits);
+      out-fits = rw (pre .2) at (z .ensures .fits);
       numbers-fit = rw (n .ensures) (numbers-fit _);
     }
 
