@@ -3,11 +3,11 @@ use crate::trace::Trace;
 use crate::trace::begin;
 use crate::trace::number_line;
 use crate::trace::put_end;
+use text_lines::input::Ended;
+use text_lines::input::finish;
 use text_lines::input::pull_line;
 use text_lines::input::shown;
 use text_lines::input::start;
-use text_lines::input::tell_failed;
-use text_lines::input::write_out;
 ghost use mathlib.Core.Path.{_≡_};
 ghost use mathlib.Core.Bool.{true};
 ghost use mathlib.Core.List.{[]};
@@ -67,15 +67,18 @@ fn run(t: Trace, chunk: &mut [u8], line: &mut [u8], out: &mut [u8]) -> Played
 }
 
 // The last line of the trace, which stands there only if the script was read to its end.
-fn finish(p: Played, out: &mut [u8]) {
+fn close(p: Played, out: &mut [u8]) {
     let t = p.trace;
+    let mut e = Ended {
+        at: t.at,
+        failed: p.failed,
+    };
     if p.failed {
-        write_out(t.at, out);
-        tell_failed();
+        finish(e, out);
         return;
     }
-    let at = put_end(out, t.at, t.number);
-    write_out(at, out);
+    e.at = put_end(out, t.at, t.number);
+    finish(e, out);
 }
 
 // Plays the whole script.
@@ -85,5 +88,5 @@ pub fn play() {
     let mut out = page_buffer();
     let t = begin(&mut out);
     let p = run(t, &mut chunk, &mut line, &mut out);
-    finish(p, &mut out);
+    close(p, &mut out);
 }

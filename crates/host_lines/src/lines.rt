@@ -1,10 +1,11 @@
 // Lines from standard input, an answer for each to standard output.
 use crate::line::answer_line;
 use text::put_byte;
+use text_lines::input::Ended;
+use text_lines::input::finish;
 use text_lines::input::pull_line;
 use text_lines::input::shown;
 use text_lines::input::start;
-use text_lines::input::write_out;
 
 // Twice what a full page has: room for the answer to any line.
 type Page = [u8; 131072];
@@ -16,8 +17,8 @@ fn put_answer(out: &mut Page, at: usize, len: usize, line: &[u8]) -> usize {
     put_byte(out, a, 10)
 }
 
-// Answers every line of the input; the place of the pen then. A proved loop has to end, so it counts down from a number that no run uses up.
-fn run(chunk: &mut [u8; 65536], line: &mut [u8; 4097], out: &mut Page) -> usize {
+// Answers every line of the input. A proved loop has to end, so it counts down from a number that no run uses up.
+fn run(chunk: &mut [u8; 65536], line: &mut [u8; 4097], out: &mut Page) -> Ended {
     let mut at = 0;
     let mut input = start();
     let mut turns: u64 = 18446744073709551615;
@@ -26,17 +27,20 @@ fn run(chunk: &mut [u8; 65536], line: &mut [u8; 4097], out: &mut Page) -> usize 
         input = l.input;
         at = l.at;
         if !l.found {
-            return at;
+            return Ended {
+                at,
+                failed: l.failed,
+            };
         }
         at = put_answer(out, at, l.len, line);
         turns -= 1;
     }
-    at
+    Ended { at, failed: true }
 }
 
 // What is left on the page. A lent `Page` has its length, which the array that was lent in `answer` is not known to have.
-fn finish(at: usize, out: &Page) -> bool {
-    write_out(at, out)
+fn close(e: Ended, out: &Page) {
+    finish(e, out);
 }
 
 // Answers the whole input. 4,097 octets of a line are kept: enough to see that it is too long.
@@ -44,6 +48,6 @@ pub fn answer() {
     let mut chunk = io::large_buffer();
     let mut line = [0u8; 4097];
     let mut out = [0u8; 131072];
-    let at = run(&mut chunk, &mut line, &mut out);
-    finish(at, &out);
+    let e = run(&mut chunk, &mut line, &mut out);
+    close(e, &out);
 }

@@ -2,11 +2,11 @@
 use crate::line::say_line;
 use crate::page::Page;
 use text::put_byte;
+use text_lines::input::Ended;
+use text_lines::input::finish;
 use text_lines::input::pull_line;
 use text_lines::input::shown;
 use text_lines::input::start;
-use text_lines::input::tell_failed;
-use text_lines::input::write_out;
 ghost use lib.ListN.{take};
 ghost use Rattle.text.specs.Page.{page, Writes};
 ghost use Rattle.pdu_words.specs.LineText.{answerText};
@@ -28,15 +28,9 @@ fn put_answer(task: Task, out: &mut Page, at: usize, len: usize, line: &[u8]) ->
     put_byte(out, a, 10)
 }
 
-// The place of the pen after the last line, and whether a read failed before the end of the input.
-struct Done {
-    at: usize,
-    failed: bool,
-}
-
 // Answers every line of the input. A proved loop has to end, so it counts down from a number that no run uses up. It states no result: which
 // octets a read brings, and that a write arrives, no contract can say.
-fn run(task: Task, chunk: &mut [u8; 65536], line: &mut [u8; 4097], out: &mut Page) -> Done {
+fn run(task: Task, chunk: &mut [u8; 65536], line: &mut [u8; 4097], out: &mut Page) -> Ended {
     let mut at = 0;
     let mut input = start();
     let mut turns: u64 = 18446744073709551615;
@@ -45,7 +39,7 @@ fn run(task: Task, chunk: &mut [u8; 65536], line: &mut [u8; 4097], out: &mut Pag
         input = l.input;
         at = l.at;
         if !l.found {
-            return Done {
+            return Ended {
                 at,
                 failed: l.failed,
             };
@@ -53,15 +47,12 @@ fn run(task: Task, chunk: &mut [u8; 65536], line: &mut [u8; 4097], out: &mut Pag
         at = put_answer(task, out, at, l.len, line);
         turns -= 1;
     }
-    Done { at, failed: true }
+    Ended { at, failed: true }
 }
 
 // What is left on the page. A lent `Page` has its length, which the array that was lent in `answer` is not known to have.
-fn finish(d: Done, out: &Page) {
-    write_out(d.at, out);
-    if d.failed {
-        tell_failed();
-    }
+fn close(e: Ended, out: &Page) {
+    finish(e, out);
 }
 
 // Answers the whole input, and states no result, as `run`. 4,097 octets of a line are kept: enough to see that it is too long.
@@ -69,6 +60,6 @@ pub fn answer(task: Task) {
     let mut chunk = io::large_buffer();
     let mut line = [0u8; 4097];
     let mut out = [0u8; 131072];
-    let d = run(task, &mut chunk, &mut line, &mut out);
-    finish(d, &out);
+    let e = run(task, &mut chunk, &mut line, &mut out);
+    close(e, &out);
 }

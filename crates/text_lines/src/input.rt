@@ -43,8 +43,22 @@ pub fn write_out(at: usize, out: &[u8]) -> bool {
 }
 
 // Says on standard error that the input was not read to its end.
-pub fn tell_failed() {
+fn tell_failed() {
     io::write_all(STDERR_FILENO, b"input could not be read to its end\n");
+}
+
+// The place of the pen after the last line, and whether a read failed before the end of the input.
+pub struct Ended {
+    pub at: usize,
+    pub failed: bool,
+}
+
+// Writes what is left on the page, and says so if the input was not read to its end.
+pub fn finish(e: Ended, out: &[u8]) {
+    write_out(e.at, out);
+    if e.failed {
+        tell_failed();
+    }
 }
 
 // Standard input, of which nothing is read yet.
