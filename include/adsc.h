@@ -34,7 +34,7 @@ extern "C" {
 #define ADSC_ANSWER_OCTETS 22   /* of an answer; a longer buffer keeps what follows */
 #define ADSC_TIMERS 9           /* settings of adsc_open */
 #define ADSC_GROUND_NUMBERS 9   /* of a ground PDU */
-#define ADSC_AIR_NUMBERS 25     /* of an aircraft PDU, */
+#define ADSC_AIR_NUMBERS 40     /* of an aircraft PDU, */
 #define ADSC_LIST_OCTETS 128    /* and of its list */
 #define ADSC_PDU_OCTETS 128     /* room for every PDU; an input over it is refused */
 #define ADSC_ACTIONS_MOST 8     /* in one answer */
@@ -109,10 +109,10 @@ enum adsc_ground_kind {
 enum adsc_contract { ADSC_CANCEL_EVENT = 0, ADSC_CANCEL_PERIODIC = 1 };  /* ADSC_G_WHAT of a cancel-contract */
 enum adsc_scale { ADSC_SECONDS = 0, ADSC_MINUTES = 1 };
 
-/* Elements are presence bits. Of demand and periodic contracts, and of reports (which carry the address alone): */
+/* Elements are presence bits. Of demand and periodic contracts, and of reports (which carry the address, the vectors and weather): */
 enum adsc_element {
     ADSC_HAS_ADDRESS = 64,
-    ADSC_HAS_PROFILE = 32,
+    ADSC_HAS_PROFILE = 32,          /* of a report not carried: 10 */
     ADSC_HAS_GROUND_VECTOR = 16,
     ADSC_HAS_AIR_VECTOR = 8,
     ADSC_HAS_WEATHER = 4,
@@ -123,8 +123,13 @@ enum adsc_element {
 /* of emergency reports, */
 enum adsc_urgent_element {
     ADSC_URGENT_HAS_ADDRESS = 2,
-    ADSC_URGENT_HAS_GROUND_VECTOR = 1   /* not carried: 10 */
+    ADSC_URGENT_HAS_GROUND_VECTOR = 1
 };
+
+/* of what a report says of speed and weather: what is not there reads as 0, and a vector or weather with nothing in it is one; */
+enum adsc_ground_part { ADSC_HAS_TRACK = 4, ADSC_HAS_GROUND_SPEED = 2, ADSC_HAS_GROUND_RATE = 1 };
+enum adsc_air_part { ADSC_HAS_HEADING = 4, ADSC_HAS_AIR_SPEED = 2, ADSC_HAS_AIR_RATE = 1 };
+enum adsc_weather_part { ADSC_HAS_WIND_SPEED = 8, ADSC_HAS_WIND_DIRECTION = 4, ADSC_HAS_TEMPERATURE = 2, ADSC_HAS_TURBULENCE = 1 };
 
 /* and of event contracts, where the other nine of eleven bits are not carried: */
 enum adsc_event_element { ADSC_ON_WAYPOINT_CHANGE = 128, ADSC_ON_MERIT_CHANGE = 4 };
@@ -156,8 +161,25 @@ enum adsc_air_place {
     ADSC_A_ACCURACY = 21,       /* 0..7 */
     ADSC_A_UNITS = 22,          /* whether more than one navigational unit works, */
     ADSC_A_AVOIDANCE = 23,      /* and whether collision avoidance does */
-    ADSC_A_ADDRESS = 24         /* 24 bits, where its element is set */
+    ADSC_A_ADDRESS = 24,        /* 24 bits, where its element is set */
+    ADSC_A_GROUND_PARTS = 25,   /* the ground vector, where its element is set: which of its parts are there, enum adsc_ground_part, */
+    ADSC_A_TRACK = 26,          /* 1..3600 tenths of a degree, */
+    ADSC_A_GROUND_SPEED = 27,   /* -50..2200 knots in two's complement, */
+    ADSC_A_GROUND_RATE = 28,    /* -3000..3000 tens of feet a minute in two's complement */
+    ADSC_A_AIR_PARTS = 29,      /* the air vector, of a report: enum adsc_air_part, */
+    ADSC_A_HEADING = 30,        /* as a track, */
+    ADSC_A_AIR_SPEED = 31,      /* which air speed, enum adsc_air_speed, */
+    ADSC_A_MACH = 32,           /* 500..4000 thousandths, */
+    ADSC_A_IAS = 33,            /* 0..1100 knots, */
+    ADSC_A_AIR_RATE = 34,       /* as of the ground vector */
+    ADSC_A_WEATHER_PARTS = 35,  /* weather, of a report: enum adsc_weather_part, */
+    ADSC_A_WIND_SPEED = 36,     /* 0..300 knots, */
+    ADSC_A_WIND_DIRECTION = 37, /* 1..360 degrees, */
+    ADSC_A_TEMPERATURE = 38,    /* -400..400 quarters of a degree Celsius in two's complement, */
+    ADSC_A_TURBULENCE = 39      /* 0..15 */
 };
+
+enum adsc_air_speed { ADSC_SPEED_MACH = 0, ADSC_SPEED_IAS = 1, ADSC_SPEED_BOTH = 2 };
 
 enum adsc_air_kind {
     ADSC_CANCEL_EMERGENCY = 0,

@@ -40,11 +40,55 @@ static uint32_t mask(int n, void *const *parts)
 }
 #define MASK(...) mask(sizeof (void *[]){__VA_ARGS__} / sizeof (void *), (void *[]){__VA_ARGS__})
 
+static long part(const long *number)
+{
+    return number ? *number : 0;
+}
+
+static void ground_vector(uint32_t *n, const GroundVector_t *v)
+{
+    if (v == NULL)
+        return;
+    n[25] = MASK(v->track, v->ground_speed, v->vertical_rate);
+    n[26] = part(v->track);
+    n[27] = part(v->ground_speed);
+    n[28] = part(v->vertical_rate);
+}
+
+static void air_vector(uint32_t *n, const AirVector_t *v)
+{
+    if (v == NULL)
+        return;
+    const AirSpeed_t *s = v->air_speed;
+    n[29] = MASK(v->heading, v->air_speed, v->vertical_rate);
+    n[30] = part(v->heading);
+    if (s) {
+        n[31] = s->present - 1;
+        n[32] = s->present == AirSpeed_PR_mach ? s->choice.mach : s->present == AirSpeed_PR_both ? s->choice.both.mach : 0;
+        n[33] = s->present == AirSpeed_PR_ias ? s->choice.ias : s->present == AirSpeed_PR_both ? s->choice.both.ias : 0;
+    }
+    n[34] = part(v->vertical_rate);
+}
+
+static void weather(uint32_t *n, const Weather_t *w)
+{
+    if (w == NULL)
+        return;
+    n[35] = MASK(w->wind_speed, w->wind_direction, w->temperature, w->turbulence);
+    n[36] = part(w->wind_speed);
+    n[37] = part(w->wind_direction);
+    n[38] = part(w->temperature);
+    n[39] = part(w->turbulence);
+}
+
 static void report(uint32_t *n, const NULL_t *ack, const Report_t *r)
 {
     n[1] = ack != NULL;
     n[4] = MASK(r->address, r->projected_profile, r->ground_vector, r->air_vector, r->weather, r->short_term_intent, r->extended_profile);
     fix(n, &r->position, &r->time_stamp, &r->merit, r->address);
+    ground_vector(n, r->ground_vector);
+    air_vector(n, r->air_vector);
+    weather(n, r->weather);
 }
 
 static void emergency(uint32_t *n, const NULL_t *ack, const EmergencyReport_t *r)
@@ -52,6 +96,7 @@ static void emergency(uint32_t *n, const NULL_t *ack, const EmergencyReport_t *r
     n[1] = ack != NULL;
     n[4] = MASK(r->address, r->ground_vector);
     fix(n, &r->position, &r->time_stamp, &r->merit, r->address);
+    ground_vector(n, r->ground_vector);
 }
 
 static void negative(uint32_t *n, uint8_t *list, const NegativeAck_t *a)

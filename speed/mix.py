@@ -12,12 +12,16 @@ import sys
 sys.path.insert(0, str(pathlib.Path(__file__).resolve().parents[1] / 'tests'))
 import percoder     # noqa: E402
 
-# name, how many, family, PDU, what is fixed in it
+# Reports with the address at most, and with every part of every element.
+PLAIN = {'report': ['address'], 'emergency-report': ['address']}
+WHOLE = {'whole': ['report', 'ground-vector', 'air-vector', 'weather'], 'air-speed-index': 2}
+
+# name, how many, family, PDU, what is fixed in it: numbers; the parts that a group of fields may have; groups that have all of theirs
 GROUPS = [
-    ('demand report', 200, 'air', 'demand-report', {}),
-    ('emergency report', 200, 'air', 'emergency', {}),
-    ('event report', 200, 'air', 'event-report', {}),
-    ('periodic report', 200, 'air', 'periodic-report', {}),
+    ('demand report', 200, 'air', 'demand-report', PLAIN),
+    ('emergency report', 200, 'air', 'emergency', PLAIN),
+    ('event report', 200, 'air', 'event-report', PLAIN),
+    ('periodic report', 200, 'air', 'periodic-report', PLAIN),
     ('negative ack, 16 names', 100, 'air', 'negative-ack', {'negative-reason': 2, 'count': 16}),
     ('negative ack, any', 100, 'air', 'negative-ack', {}),
     ('noncompliance', 200, 'air', 'noncompliance', {}),
@@ -27,6 +31,9 @@ GROUPS = [
     ('periodic contract', 200, 'ground', 'periodic-contract', {}),
     ('other ground PDU', 100, 'ground',
      ('cancel-all', 'cancel-contract', 'cancel-emergency-ack', 'modify-emergency', 'provider-abort'), {}),
+    # behind the others, whose draws stay
+    ('report, all elements', 200, 'air', ('demand-report', 'event-report', 'periodic-report'), WHOLE),
+    ('report, any elements', 200, 'air', ('demand-report', 'emergency', 'event-report', 'periodic-report'), {}),
 ]
 
 
@@ -55,8 +62,8 @@ class Draw:
         return name, self.value(content, fixed)
 
     def fields(self, form, fixed, optional, required):
-        carried = [part for part in optional if part[1] != percoder.NOT_CARRIED]
-        there = [part for part in carried if self.below(2)]
+        carried = [part for part in optional if part[1] != percoder.NOT_CARRIED and part[0] in fixed.get(form, [part[0]])]
+        there = carried if form in fixed.get('whole', []) else [part for part in carried if self.below(2)]
         if form in percoder.NEEDS_ONE and not there:
             there = carried
         return {name: self.value(content, fixed) for name, content in required + there}

@@ -11,7 +11,7 @@ import sys
 REPORTS = ['demand report', 'emergency report', 'event report', 'periodic report']
 CONTRACTS = ['demand contract', 'event contract', 'periodic contract']
 # At most so many instructions for one of asn1c.
-GOALS = ([('read', group, 0.08) for group in REPORTS + CONTRACTS] + [('read', 'negative ack, 16 names', 0.2)]
+GOALS = ([('read', group, 0.08) for group in REPORTS + ['report, all elements'] + CONTRACTS] + [('read', 'negative ack, 16 names', 0.2)]
          + [('write', group, 0.4) for group in REPORTS])
 
 

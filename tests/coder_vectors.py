@@ -12,7 +12,7 @@ import itertools
 import os
 import sys
 
-from percoder import DEFAULTS, NEEDS_ONE, NOT_CARRIED, RANGES, TABLE, answer, pack, pieces, write
+from percoder import DEFAULTS, NEEDS_ONE, NOT_CARRIED, RANGES, TABLE, Writer, answer, pack, pieces, write
 
 P13 = '08' + '00' * 7 + '012c' + '00' * 4
 
@@ -53,6 +53,14 @@ LITERALS = [
     ('air 28035100', 'ok 28035100'),        #     entries in any order: 5, 1, 0
     ('air 18c0', 'refused 8'),              # 17: event type 12; request type 7 reads
     ('air 3b80', 'ok 3b80'),
+    # Vectors and weather: P13 with each (002), nothing in them
+    ('air 0820' + '00' * 6 + '012c' + '00' * 5, 'ok 0820' + '00' * 6 + '012c' + '00' * 5),
+    ('air 0810' + '00' * 6 + '012c' + '00' * 5, 'ok 0810' + '00' * 6 + '012c' + '00' * 5),
+    ('air 0808' + '00' * 6 + '012c' + '00' * 5, 'ok 0808' + '00' * 6 + '012c' + '00' * 5),
+    ('air 0838' + '00' * 6 + '012c' + '00' * 6, 'ok 0838' + '00' * 6 + '012c' + '00' * 6),
+    ('air 0804', 'refused 10'),             #     the other three elements
+    ('air 0802', 'refused 10'),
+    ('air 083c', 'refused 10'),
     # An event contract with no element, and 7 before 15
     ('ground 4000', 'refused 15'),
     ('ground 4000ff', 'refused 15'),
@@ -85,9 +93,30 @@ def middle(name):
     return low + (high - low) * 5 // 7
 
 
+def longest(form, values):
+    """The first of those that take the most bits."""
+    def bits(value):
+        writer = Writer()
+        writer.write(form, value)
+        return sum(piece.width for piece in writer.pieces)
+
+    return max(values, key=bits)
+
+
+def patterns(form, optional):
+    """Parts that are there together: all, each alone in each of its shapes, none; of up to four every set of them."""
+    full = {name: longest(content, values) for name, content, values in optional}
+    yield full
+    yield from ({name: value} for name, _, values in optional for value in values)
+    if len(optional) <= 4:
+        for count in range(2, len(optional)):
+            yield from ({name: full[name] for name in names} for names in itertools.combinations(full, count))
+    if form not in NEEDS_ONE:
+        yield {}
+
+
 def shapes(form):
-    """Values with middle numbers: every alternative, parts all there, each alone and absent,
-    lists of 1, 0, 15 and 16 entries. The fullest comes first."""
+    """Values with middle numbers: every alternative, parts there or not, lists of 1, 0, 15 and 16 entries. The fullest comes first."""
     form = form.rstrip('*')
     if form == 'null':
         return [None]
@@ -101,20 +130,17 @@ def shapes(form):
     if kind == 'eight':
         return [tuple(middle(parts[0]) + place for place in range(8))]
     optional, required = parts
-    optional = [(name, shapes(content)) for name, content in optional if content != NOT_CARRIED]
+    optional = [(name, content, shapes(content)) for name, content in optional if content != NOT_CARRIED]
     base = [dict(zip([name for name, _ in required], values))
             for values in itertools.product(*(shapes(content) for _, content in required))]
-    full = {name: values[0] for name, values in optional}
-    parts = [full] + [{name: value} for name, values in optional for value in values]
-    if form not in NEEDS_ONE:
-        parts.append({})
-    return [{**need, **may} for may in parts for need in base]
+    return [{**need, **may} for may in patterns(form, optional) for need in base]
 
 
 def numbers(seen, family, value):
-    """Every field of a message once: lowest, highest, and one above (8) where the bits hold it."""
-    sent, nth = pieces(family, value), collections.Counter()
+    """Every field of a message once: lowest, highest, about zero, and one above (8) where the bits hold it, the input ending with it too."""
+    sent, nth, end = pieces(family, value), collections.Counter(), 0
     for place, piece in enumerate(sent):
+        end += piece.width
         if piece.kind not in ('number', 'index'):
             continue
         nth[piece.name] += 1
@@ -126,8 +152,30 @@ def numbers(seen, family, value):
         if piece.kind == 'number':                              # another index is another shape
             yield replaced(sent, place, 0), 'ok'
             yield replaced(sent, place, high - low), 'ok'
+            if low < 0:
+                yield from ((replaced(sent, place, number - low), 'ok') for number in (-1, 0, 1))
         if high - low + 1 < 1 << piece.width:
             yield replaced(sent, place, high - low + 1), 'refused 8'
+            yield replaced(sent, place, high - low + 1)[:(end + 7) // 8], 'refused 8'
+
+
+def ends(family, value):
+    """All numbers at their lowest, and all at their highest."""
+    sent = pieces(family, value)
+    for top in (False, True):
+        yield pack([piece._replace(sent=(RANGES[piece.name][1] - RANGES[piece.name][0]) * top) if piece.kind == 'number' else piece for piece in sent])
+
+
+def cuts(seen, family, value):
+    """Every field of two bits or more of a message once with the input ending inside it."""
+    sent = pieces(family, value)
+    octets, end = pack(sent), 0
+    for piece in sent:
+        start, end = end, end + piece.width
+        key = (family, value[0], piece.kind, piece.name)
+        if key not in seen and start < (end - 1) // 8 * 8:
+            seen.add(key)
+            yield octets[:(end - 1) // 8], 'refused 7'
 
 
 def replaced(sent, place, raw):
@@ -172,18 +220,31 @@ def defaults():
 
 def walked():
     """(family, octets, how the answer begins)"""
-    seen, whole = set(), set()
+    seen, cut, whole = set(), set(), set()
     for family in ('air', 'ground'):
         for value in shapes(family):
             yield family, write(family, value), 'ok'
-            for octets, wanted in numbers(seen, family, value):
+            for octets, wanted in itertools.chain(numbers(seen, family, value), cuts(cut, family, value)):
                 yield family, octets, wanted
             if (family, value[0]) not in whole or any(piece.kind == 'count' for piece in pieces(family, value)):
                 whole.add((family, value[0]))
+                for octets in ends(family, value):
+                    yield family, octets, 'ok'
                 for octets in edges(family, value):
                     yield family, octets, 'refused'
     for octets in defaults():
         yield 'ground', octets, 'refused 11'
+    inside = {name for _, _, _, name in cut}
+    missed = [name for form in ('ground-vector', 'air-vector', 'mach-and-ias', 'weather') for name in parts_of(form) if name not in inside]
+    assert not missed, missed
+
+
+def parts_of(form):
+    """A group, its indexes and numbers, of those that have two bits or more."""
+    optional, required = TABLE[form][1:]
+    yield from [form] * (len(optional) > 1)
+    for _, content in optional + required:
+        yield TABLE[content][1] if content in TABLE else content
 
 
 def main():

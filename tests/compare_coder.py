@@ -1,15 +1,17 @@
 """Compares a program's reading and writing of PDUs with percoder.py, on fresh random inputs.
 
-    compare_coder.py [--count N] [--seed S] [--shift NAME] -- PROGRAM [ARGS..]
-    compare_coder.py [--count N] [--seed S] --text [--reword TEXT] -- PROGRAM [ARGS..]
+    compare_coder.py [--count N] [--seed S] [--shift NAME | --change NAME] -- PROGRAM [ARGS..]
+    compare_coder.py [--count N] [--seed S] --text [--reword TEXT | --change NAME] -- PROGRAM [ARGS..]
     compare_coder.py --list
+    compare_coder.py [--text] --changes
 
 PROGRAM gets one line per PDU, `air HEX` or `ground HEX` (just `air` or `ground` when empty), and
 answers each with `ok HEX`, the octets written back from the value read, or `refused N`; with
 --text, with the line for a person of plaintext.py, and no two PDUs with the same one.
---shift moves the upper end of one range of percoder's table by one, --reword changes one text of
-plaintext's tables: the comparison must then fail. --list prints the ranges. Exit 0: no
-differences, and everything was exercised.
+--shift moves the upper end of one range of percoder's table by one, --change alters another rule of
+it, --reword changes one text of plaintext's tables: the comparison must then fail. --list prints
+the ranges, --changes the rules; an offset is a rule that only --text shows. Exit 0: no differences,
+and everything was exercised.
 """
 
 import argparse
@@ -211,16 +213,18 @@ def main():
     if '--' in arguments:
         place = arguments.index('--')
         arguments, program = arguments[:place], arguments[place + 1:]
-    parser = argparse.ArgumentParser(usage='compare_coder.py [--count N] [--seed S] [--shift NAME] [--text [--reword TEXT]] -- PROGRAM [ARGS..]')
+    parser = argparse.ArgumentParser(usage='compare_coder.py [--count N] [--seed S] [--shift NAME] [--change NAME] [--text [--reword TEXT]] -- PROGRAM [ARGS..]')
     parser.add_argument('--count', type=int, default=20000)
     parser.add_argument('--seed', type=int, default=None)
     parser.add_argument('--shift', choices=RANGES, metavar='NAME')
+    parser.add_argument('--change', choices=percoder.CHANGES, metavar='NAME')
     parser.add_argument('--text', action='store_true')
     parser.add_argument('--reword', metavar='TEXT')
     parser.add_argument('--list', action='store_true')
+    parser.add_argument('--changes', action='store_true')
     options = parser.parse_args(arguments)
-    if options.list:
-        print('\n'.join(RANGES))
+    if options.list or options.changes:
+        print('\n'.join(RANGES if options.list else [name for name in percoder.CHANGES if options.text or name not in percoder.OFFSETS]))
         return 0
     if not program:
         parser.error('no program to compare with')
@@ -228,6 +232,8 @@ def main():
     kinds = {(family, name) for family in ('air', 'ground') for name, _ in TABLE[family][2]}
     if options.shift:
         percoder.shift(options.shift)
+    if options.change:
+        percoder.CHANGES[options.change]()
     if options.reword:
         plaintext.reword(options.reword)
 
@@ -260,7 +266,7 @@ def main():
     tally = collections.Counter(text.split()[0] if text.startswith('ok') else int(text.split()[1]) for text in coded)
     faults += [f'refusal {number} was never exercised' for number in REFUSALS if not tally[number]]
     faults += [f'no {family} {name} was accepted' for family, name in sorted(kinds - met)]
-    print(f'seed {seed}' + (f', {options.shift} shifted' if options.shift else ''))
+    print(f'seed {seed}' + (f', {options.shift} shifted' if options.shift else '') + (f', changed: {options.change}' if options.change else ''))
     print(f'lines {len(lines)}')
     print('expected ok', tally.pop('ok', 0), *(f'refused-{number} {tally[number]}' for number in sorted(tally)),
           f'kinds {len(kinds & met)}/{len(kinds)}')

@@ -27,7 +27,7 @@ from percoder import PRESENCE
 
 REFUSALS = {'write_ground': (5, 6, 10, 15), 'write_air': (5, 6, 10, 12), 'open': (3, 6), 'request': (29, 1, 5, 10, 15, 6), 'elapse': (29, 4, 6),
             **{word: (29, 1, 6) if word == 'user_abort' else (29, 2, 6) for word in hostmodel.CALLS if word not in ('request', 'elapse')}}
-ONES = b' 1' * 31
+ONES = b' 1' * hostmodel.MOST_NUMBERS
 UNREADABLE = (b'', b'write', b'write_ground', b'write_ground  ', b'Open    1', b'open   1', b'open    1 ', b'open    01', b'open    4294967296',
               b'open 0   1', b'open AA   1', b'open a a a 1', b'open   ' + ONES + b' 1', b'elapse ' + b'00' * 257 + b'  ', b'elapse    1\r',
               b'down   \0', b'downs   ', b'adsc_down   ', b'down   ' + ONES * 70)
@@ -99,6 +99,15 @@ class AbsentJudged(percoder.Writer):
                 percoder.Writer().write(content, value[name])
 
 
+class AbsentElements(percoder.Writer):
+    """Vectors and weather that are absent are judged too."""
+    def fields(self, form, value, optional, required):
+        super().fields(form, value, optional, required)
+        for name, content in optional:
+            if content in ('ground-vector', 'air-vector', 'weather') and name in value:
+                percoder.Writer().write(content, value[name])
+
+
 class AnyElement(percoder.Writer):
     """An event contract with no element is taken."""
     def fields(self, form, value, optional, required):
@@ -106,6 +115,26 @@ class AnyElement(percoder.Writer):
             self.put('presence', form, 0, len(optional))
         else:
             super().fields(form, value, optional, required)
+
+
+@contextlib.contextmanager
+def exchanged(form, one, other):
+    """Two fields in each other's place, with their presence bits."""
+    percoder.exchange(form, one, other)
+    try:
+        yield RULES
+    finally:
+        percoder.exchange(form, one, other)
+
+
+@contextlib.contextmanager
+def needing(form):
+    """One of the parts has to be there."""
+    percoder.NEEDS_ONE.add(form)
+    try:
+        yield RULES
+    finally:
+        percoder.NEEDS_ONE.discard(form)
 
 
 @contextlib.contextmanager
@@ -140,14 +169,22 @@ def changes():
     yield 'writing: 12 behind the entries', ruled(writer=CountLast)
     yield 'writing: absent fields are judged', ruled(writer=AbsentJudged)
     yield 'writing: no element is taken', ruled(writer=AnyElement)
-    yield 'writing: levels without a sign', ruled(signed=False)
+    yield 'writing: absent elements are judged', ruled(writer=AbsentElements)
+    yield 'writing: heading by the bit of the track', ruled(heading_by='ground-parts')
+    for name in hostmodel.SIGNED:
+        yield f'writing: {name} without a sign', ruled(signed=tuple(other for other in hostmodel.SIGNED if other != name))
+        yield f'writing: {name} sent plus one more', functools.partial(ranged, name, -1, -1)
+    for form, one, other in percoder.EXCHANGED:
+        yield f'writing: {one} and {other} of {form} exchanged', functools.partial(exchanged, form, one, other)
+    for form in ('ground-vector', 'air-vector', 'weather'):
+        yield f'writing: no {form} with nothing in it', functools.partial(needing, form)
     yield 'writing: a refused write changes the output', ruled(spoils=('out',))
     yield 'writing: a good write changes what follows', ruled(spoils=('past',))
     yield 'writing: a refused write tells a length', ruled(told=0)
     yield 'writing: one octet too few is room', ruled(short=1)
     yield 'writing: just enough is no room', ruled(short=-1)
     for name in percoder.RANGES:
-        if name not in ('octets', 'count', 'air-index', 'ground-index', 'negative-reason', 'noncompliance-index', 'interval-index'):
+        if name not in ('octets', 'count', 'air-index', 'ground-index', 'negative-reason', 'noncompliance-index', 'interval-index', 'air-speed-index'):
             yield f'writing: {name} ends one later', functools.partial(ranged, name, 0, 1)
             yield f'writing: {name} ends one sooner', functools.partial(ranged, name, 0, -1)
             yield f'writing: {name} begins one sooner', functools.partial(ranged, name, -1, 0)

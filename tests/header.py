@@ -21,16 +21,19 @@ CONSTANTS = {
     "refusals/src/lib.rt": {f"ADSC_{name}": name for name in (
         "NOT_PERMITTED", "CANNOT_OCCUR", "BAD_SETTING", "ELAPSE_OVER", "OUT_OF_RANGE", "NO_ROOM", "CUT_SHORT", "ABOVE_RANGE", "EXTENSION_SET", "NOT_CARRIED",
         "DEFAULT_SENT", "LIST_OVER", "FILLING", "OCTETS_AFTER", "NO_ELEMENT", "INPUT_OVER", "SCRIPT_LINE", "BAD_RECORD")},
-    "host_numbers/src/places.rt": {f"ADSC_{name}": name for name in (
+    "host_numbers/src/places.rt": {**{f"ADSC_{name}": name for name in (
         *("A_" + n for n in ("KIND", "WHAT", "DETAIL", "COUNT", "ELEMENTS", "SOUTH", "LATITUDE", "LATITUDE_MINUTES", "LATITUDE_TENTHS", "WEST", "LONGITUDE",
                              "LONGITUDE_MINUTES", "LONGITUDE_TENTHS", "LEVEL", "YEAR", "MONTH", "DAY", "HAS_SECONDS", "HOURS", "MINUTES", "SECONDS", "ACCURACY",
-                             "UNITS", "AVOIDANCE", "ADDRESS")),
-        *("G_" + n for n in ("KIND", "WHAT", "SCALE", "INTERVAL", "ADDRESS", "PROFILE", "GROUND_VECTOR", "AIR_VECTOR", "WEATHER")))},
+                             "UNITS", "AVOIDANCE", "ADDRESS", "GROUND_PARTS", "TRACK", "GROUND_SPEED", "GROUND_RATE", "AIR_PARTS", "HEADING", "AIR_SPEED", "MACH",
+                             "IAS", "AIR_RATE", "WEATHER_PARTS", "WIND_SPEED", "WIND_DIRECTION", "TEMPERATURE", "TURBULENCE")),
+        *("G_" + n for n in ("KIND", "WHAT", "SCALE", "INTERVAL", "ADDRESS", "PROFILE", "GROUND_VECTOR", "AIR_VECTOR", "WEATHER")))}, "ADSC_AIR_NUMBERS": "A_NUMBERS"},
     "ground_answer/src/reasons.rt": {f"ADSC_{name}": name for name in (
         "PROVIDER_FAILURE", "INVALID_PDU", "SEQUENCE_ERROR", "TIMER_EXPIRY", "NO_CONTACT", "UNDEFINED_ERROR")},
     "pdu_parts/src/elements.rt": {
         **{f"ADSC_HAS_{name}": name for name in ("ADDRESS", "PROFILE", "GROUND_VECTOR", "AIR_VECTOR", "WEATHER")},
-        "ADSC_URGENT_HAS_ADDRESS": "EMERGENCY_ADDRESS", "ADSC_ON_WAYPOINT_CHANGE": "WAYPOINT_CHANGE", "ADSC_ON_MERIT_CHANGE": "MERIT_CHANGE"},
+        **{f"ADSC_HAS_{name}": name for name in ("TRACK", "GROUND_SPEED", "GROUND_RATE", "HEADING", "AIR_SPEED", "AIR_RATE", "WIND_SPEED", "WIND_DIRECTION",
+                                                 "TEMPERATURE", "TURBULENCE")},
+        "ADSC_URGENT_HAS_ADDRESS": "EMERGENCY_ADDRESS", "ADSC_URGENT_HAS_GROUND_VECTOR": "EMERGENCY_GROUND_VECTOR", "ADSC_ON_WAYPOINT_CHANGE": "WAYPOINT_CHANGE", "ADSC_ON_MERIT_CHANGE": "MERIT_CHANGE"},
     "host_record/src/record.rt": {"ADSC_LINK_OCTETS": "RECORD"},
     "host_record/src/answer.rt": {"ADSC_ANSWER_OCTETS": "ANSWER"},
     "ground_answer/src/answer.rt": {
@@ -58,19 +61,18 @@ KINDS = {
         "ADSC_AIR_ABORT": "Abort"}),
 }
 
-# The array that a function ends with: its size, and the place of each entry that has a name.
+# The array that a function ends with: its size, where it is a size of the header, and the place of each entry that has a name.
 ARRAYS = [
     ("host_numbers/src/uplink.rt", "flat_periodic", "ADSC_GROUND_NUMBERS", {
         "ADSC_G_KIND": "6", "ADSC_G_WHAT": "a.elements", "ADSC_G_SCALE": "scale", "ADSC_G_INTERVAL": "times", "ADSC_G_ADDRESS": "a.address",
         "ADSC_G_PROFILE": "a.profile", "ADSC_G_GROUND_VECTOR": "a.ground", "ADSC_G_AIR_VECTOR": "a.air", "ADSC_G_WEATHER": "a.weather"}),
-    ("host_numbers/src/reports.rt", "flat_fix", "ADSC_AIR_NUMBERS", {
+    ("host_numbers/src/reports.rt", "fix_numbers", None, {
         "ADSC_A_KIND": "kind", "ADSC_A_WHAT": "bit(ack)", "ADSC_A_DETAIL": "event", "ADSC_A_ELEMENTS": "elements", "ADSC_A_SOUTH": "bit(la.minus)",
         "ADSC_A_LATITUDE": "la.degrees", "ADSC_A_LATITUDE_MINUTES": "la.minutes", "ADSC_A_LATITUDE_TENTHS": "la.tenths", "ADSC_A_WEST": "bit(lo.minus)",
         "ADSC_A_LONGITUDE": "lo.degrees", "ADSC_A_LONGITUDE_MINUTES": "lo.minutes", "ADSC_A_LONGITUDE_TENTHS": "lo.tenths", "ADSC_A_LEVEL": "complement(level)",
         "ADSC_A_YEAR": "t.year", "ADSC_A_MONTH": "t.month", "ADSC_A_DAY": "t.day", "ADSC_A_HAS_SECONDS": "bit(t.has_seconds)", "ADSC_A_HOURS": "t.hours",
         "ADSC_A_MINUTES": "t.minutes", "ADSC_A_SECONDS": "t.seconds", "ADSC_A_ACCURACY": "m.accuracy", "ADSC_A_UNITS": "bit(m.units)",
         "ADSC_A_AVOIDANCE": "bit(m.avoidance)", "ADSC_A_ADDRESS": "address"}),
-    ("host_numbers/src/downlink.rt", "few_of", "ADSC_AIR_NUMBERS", {"ADSC_A_KIND": "kind", "ADSC_A_WHAT": "a", "ADSC_A_DETAIL": "b", "ADSC_A_COUNT": "count"}),
     ("host_record/src/answer.rt", "answer_octets", "ADSC_ANSWER_OCTETS", {
         "ADSC_ANSWER_REASON": "q[0]", "ADSC_ANSWER_ACTIONS": "n", "ADSC_ANSWER_SENT": "m"}),
 ]
@@ -129,7 +131,7 @@ def numbers_due():
         body = crate(path).split(f"fn {function}(", 1)[1].split("\n}\n", 1)[0]
         entries = [entry.strip() for entry in body.rsplit("    [", 1)[1].rsplit("]", 1)[0].split(",") if entry.strip()]
         due += [(name, entries.index(entry), f"{path}, {function}") for name, entry in names.items()]
-        due.append((size, len(entries), f"{path}, {function}"))
+        due += [(size, len(entries), f"{path}, {function}")] if size else []
     for path, names in TEXTS.items():
         due += [(name, int(re.search(text, crate(path))[1]), path) for name, text in names.items()]
     return due

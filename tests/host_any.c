@@ -153,17 +153,26 @@ static void ground_numbers(uint32_t *n)
 
 static void report_numbers(uint32_t *n)
 {
-    static const uint32_t most[ADSC_AIR_NUMBERS] = {0, 0, 0, 0, 0, 2, 91, 60, 600, 2, 181, 60, 600, 0, 0, 0, 0, 2, 24, 60, 60, 8, 2, 2, 1 << 24};
+    static const uint32_t most[ADSC_AIR_NUMBERS] = {0, 0, 0, 0, 0, 2, 91, 60, 600, 2, 181, 60, 600, 0, 0, 0, 0, 2, 24, 60, 60, 8, 2, 2, 1 << 24,
+        8, 0, 0, 0, 8, 0, 3, 0, 1101, 0, 16, 301, 0, 0, 16};
     for (int i = 0; i < ADSC_AIR_NUMBERS; i++)
         if (most[i])
             n[i] = chance(most[i]);
-    n[ADSC_A_ELEMENTS] = chance(2) * (n[ADSC_A_KIND] == ADSC_EMERGENCY_REPORT ? ADSC_URGENT_HAS_ADDRESS : ADSC_HAS_ADDRESS);
+    n[ADSC_A_ELEMENTS] = n[ADSC_A_KIND] == ADSC_EMERGENCY_REPORT ? chance(4) : chance(128) & (ADSC_HAS_ADDRESS | ADSC_HAS_GROUND_VECTOR | ADSC_HAS_AIR_VECTOR | ADSC_HAS_WEATHER);
     if (one_in(20))
         n[ADSC_A_ELEMENTS] = chance(128);
     n[ADSC_A_LEVEL] = chance(10076) - 75;
     n[ADSC_A_YEAR] = 1996 + chance(100);
     n[ADSC_A_MONTH] = 1 + chance(12);
     n[ADSC_A_DAY] = 1 + chance(31);
+    n[ADSC_A_TRACK] = 1 + chance(3600);
+    n[ADSC_A_GROUND_SPEED] = chance(2251) - 50;
+    n[ADSC_A_GROUND_RATE] = chance(6001) - 3000;
+    n[ADSC_A_HEADING] = 1 + chance(3600);
+    n[ADSC_A_MACH] = 500 + chance(3501);
+    n[ADSC_A_AIR_RATE] = chance(6001) - 3000;
+    n[ADSC_A_WIND_DIRECTION] = 1 + chance(360);
+    n[ADSC_A_TEMPERATURE] = chance(801) - 400;
 }
 
 /* Numbers of an aircraft PDU, most of them in range. */

@@ -24,16 +24,47 @@ FIX = {'south': 'sign', 'latitude': 'degrees-latitude', 'latitude-minutes': 'min
        'west': 'sign', 'longitude': 'degrees-longitude', 'longitude-minutes': 'minutes-of-degree', 'longitude-tenths': 'tenth-seconds',
        'level': 'level', 'year': 'year', 'month': 'month', 'day': 'day', 'has-seconds': 'boolean', 'hours': 'hours', 'minutes': 'minutes',
        'accuracy': 'accuracy', 'units': 'boolean', 'avoidance': 'boolean'}
+# Behind the bits that say which of them are there (the first as the highest), and those behind the bit of their element.
+PARTS = {
+    'ground-parts': (('track', 'track'), ('ground-speed', 'ground-speed'), ('ground-rate', 'ground-rate')),
+    'air-parts': (('heading', 'heading'), ('air-speed', 'air-speed-index'), ('air-rate', 'air-rate')),
+    'weather-parts': (('wind-speed', 'wind-speed'), ('wind-direction', 'wind-direction'), ('temperature', 'temperature'), ('turbulence', 'turbulence')),
+}
+SPEEDS = {0: ('mach',), 1: ('ias',), 2: ('mach', 'ias')}
+BITS = {'address': 64, 'ground-parts': 16, 'air-parts': 8, 'weather-parts': 4}
+URGENT_BITS = {'address': 2, 'ground-parts': 1}
 REPORTS = ('demand-report', 'emergency', 'event-report', 'periodic-report')
 WHAT = {'cancel-contract': 'cancel-contract', 'provider-abort': 'abort-reason', 'positive-ack': 'request-type', 'negative-ack': 'request-type',
         'noncompliance': 'noncompliance-index', **dict.fromkeys(REPORTS, 'boolean')}
 ENTRIES = ('report-type', 'noncompliance-event-type', 'report-type-and-period')
 
 # Presence bits as a host gives them: how many, and which are carried.
-MASKS = {'demand-contract': (7, 0x7c), 'periodic-contract': (7, 0x7c), 'event-contract': (11, 0x84), 'emergency': (2, 2),
-         **dict.fromkeys(('demand-report', 'event-report', 'periodic-report'), (7, 64))}
+MASKS = {'demand-contract': (7, 0x7c), 'periodic-contract': (7, 0x7c), 'event-contract': (11, 0x84), 'emergency': (2, 3),
+         **dict.fromkeys(('demand-report', 'event-report', 'periodic-report'), (7, 0x5c)),
+         **{parts: (len(fields), (1 << len(fields)) - 1) for parts, fields in PARTS.items()}}
 MODULI = dict(zip(GROUND[4:], (64, 32, 16, 8, 4)))
+# These say what else there is.
+SAYING = ('what', 'scale', 'detail', 'elements', 'has-seconds', *PARTS, 'air-speed')
 COUNTS = (17, 18, 255, 256, 257, TOP - 1)
+
+
+def elements_of(kind, n):
+    """What the elements of a report add, in the order of sending."""
+    found = {}
+    for element, bit in (URGENT_BITS if kind == 'emergency' else BITS).items():
+        if n['elements'] & bit:
+            found[element] = 'mask' if element in PARTS else element
+            found.update(parts_of(element, n))
+    return found
+
+
+def parts_of(element, n):
+    """The parts of a vector or weather that its bits announce."""
+    parts = PARTS.get(element, ())
+    for place, (name, form) in enumerate(parts, 1):
+        if n[element] >> len(parts) - place & 1:
+            yield name, form
+            yield from ((speed, speed) for speed in SPEEDS.get(n['air-speed'], ()) if name == 'air-speed')
 
 
 def fields_of(family, kind, n):
@@ -49,7 +80,7 @@ def fields_of(family, kind, n):
     if kind in REPORTS:
         found.update({'detail': 'event-type'} if kind == 'event-report' else {}, elements='mask', **FIX)
         found.update({'seconds': 'seconds'} if n['has-seconds'] == 1 else {})
-        found.update({'address': 'address'} if n['elements'] & MASKS[kind][1] else {})
+        found.update(elements_of(kind, n))
     if kind == 'negative-ack':
         found['detail'] = 'negative-reason'
     if kind == 'noncompliance' or kind == 'negative-ack' and n['detail'] == 2:
@@ -69,15 +100,16 @@ class Pdu:
         self.n = {place: rng.choice((rng.randrange(TOP), rng.randrange(300), 0)) for place in PLACES[family]}
         self.n['kind'] = KINDS[family].index(kind)
         self.octets = rng.randbytes(rng.choice((0, 0, 5, 128, 140)))
-        for place in ('what', 'scale', 'detail', 'elements', 'has-seconds'):        # these say what else there is
+        for place in SAYING:
             if place in self.n and place in fields_of(family, kind, self.n):
                 self.n[place] = self.good(place)
         if full:
-            self.n.update({'has-seconds': 1, 'elements': MASKS[kind][1]} if kind in REPORTS else {})
+            self.n.update({'has-seconds': 1, 'elements': MASKS[kind][1], 'air-speed': 2} if kind in REPORTS else {})
+            self.n.update({parts: MASKS[parts][1] for parts in PARTS} if kind in REPORTS else {})
             self.n.update({'detail': 2} if kind == 'negative-ack' else {})
             self.n.update({'what': 0x7c} if kind == 'periodic-contract' else {})
         for place in self.fields():
-            if place not in ('what', 'scale', 'detail', 'elements', 'has-seconds', 'entries'):
+            if place not in (*SAYING, 'entries'):
                 self.n[place] = max(self.good(place), 1) if full and place == 'count' else self.good(place)
         if 'entries' in self.fields():
             low, high = entry_range(kind, self.n)
@@ -91,10 +123,13 @@ class Pdu:
     def fields(self):
         return fields_of(self.family, self.kind, self.n)
 
+    def mask(self, place):
+        return MASKS[place if place in PARTS else self.kind]
+
     def good(self, place):
         form = fields_of(self.family, self.kind, self.n)[place]
         if form == 'mask':
-            carried = MASKS[self.kind][1]
+            carried = self.mask(place)[1]
             some = self.rng.randrange(2048) & carried
             return self.rng.choice((carried, some or carried) if self.kind == 'event-contract' else (carried, 0, some))
         low, high = RANGES[form]
@@ -104,10 +139,10 @@ class Pdu:
         """name -> number: just outside, just inside."""
         form = self.fields()[place]
         if form == 'mask':
-            bits, carried = MASKS[self.kind]
+            bits, carried = self.mask(place)
             off = [1 << bit for bit in range(bits) if not carried >> bit & 1]
-            return {'none': 0, 'carried': carried, 'all': (1 << bits) - 1, 'over': 1 << bits, 'over and not carried': (1 << bits) + off[0],
-                    'top': TOP - 1, **{f'not carried {bit}': bit for bit in off}}
+            return {'none': 0, 'carried': carried, 'over': 1 << bits, 'top': TOP - 1, **{f'not carried {bit}': bit for bit in off},
+                    **({'all': (1 << bits) - 1, 'over and not carried': (1 << bits) + off[0]} if off else {})}
         low, high = RANGES[form]
         return {'below': (low - 1) % TOP, 'low': low % TOP, 'high': high, 'above': high + 1, 'top bit': 1 << 31, 'any': self.rng.randrange(TOP)}
 
@@ -181,13 +216,24 @@ def room_lines(rng, met):
                 yield pdu.line(room)
 
 
+def signed_edges(place):
+    low, high = RANGES[place]
+    return (low - 1, low, -1, 0, high, high + 1, -2 ** 31)
+
+
 def other_lines(rng, met):
-    """Levels, lists, kinds and lengths of their own."""
-    for level in (-76, -75, -1, 0, 10000, 10001, -2 ** 31):
-        for kind in REPORTS:
-            pdu = Pdu(rng, 'air', kind)
-            pdu.n['level'] = level % TOP
-            met[f'level {level}'] += 1
+    """Levels and other signed numbers, sets of parts, lists, kinds and lengths of their own."""
+    for place, kind in itertools.product(hostmodel.SIGNED, REPORTS):
+        for number in signed_edges(place):
+            pdu = Pdu(rng, 'air', kind, True)
+            pdu.n[place] = number % TOP
+            met[f'{place} {number}'] += 1
+            yield pdu.line(128)
+    for kind, (parts, (bits, _)) in itertools.product(REPORTS, ((parts, MASKS[parts]) for parts in PARTS)):
+        for some, speed in itertools.product(range(1 << bits), range(4) if parts == 'air-parts' else (2,)):
+            pdu = Pdu(rng, 'air', kind, True)
+            pdu.n[parts], pdu.n['air-speed'] = some, speed
+            met[f'{kind}: {parts} {some}'] += 1
             yield pdu.line(128)
     for kind, count, short in itertools.product(('negative-ack', 'noncompliance'), (0, 1, 15, 16, *COUNTS), (False, True)):
         pdu = Pdu(rng, 'air', kind, True)
@@ -213,10 +259,10 @@ def other_lines(rng, met):
         met[f'{family}: kind {kind}'] += 1
         yield pdu.line(128)
     for family, kind in ALL_KINDS:
-        for size in range(30):
+        for size in range(hostmodel.MOST_NUMBERS + 1):
             pdu = Pdu(rng, family, kind, True)
             met[f'{family}: {size} numbers'] += 1
-            yield pdu.line(128, (pdu.numbers() + [rng.randrange(TOP) for _ in range(30)])[:size])
+            yield pdu.line(128, (pdu.numbers() + [rng.randrange(TOP) for _ in range(size)])[:size])
 
 
 def random_write(rng, met):
@@ -397,7 +443,12 @@ RECORDS_DUE = ([f'{timer} {how}: setting {setting}' for timer in TIMERS for how 
                + [f'{li}: all IDLE' for li in STATES['LI']] + [f'{size} octets' for size in (0, 76, 78)]
                + [f'29 for {ground} alone' for ground in GROUNDS] + [f'{first} before {other}' for first, other in MEETINGS]
                + [f'{word} {how}' for word in CALLS for how in ('accepted', 'refused')] + ['open'])
-WRITING_DUE = ([f'level {level}' for level in (-76, -75, 10000, 10001)]
+WRITING_DUE = ([f'{place} {number}' for place in hostmodel.SIGNED for number in signed_edges(place)]
+               + [f'{kind}: {parts} {some}' for kind in REPORTS for parts in PARTS for some in range(1 << len(PARTS[parts]))]
+               + [f'air {kind}: {place} {edge}' for kind in REPORTS for parts in PARTS if kind != 'emergency' or parts == 'ground-parts'
+                  for place, _ in PARTS[parts] for edge in ('below', 'low', 'high', 'above')]
+               + [f'air {kind}: {place} {edge}' for kind in REPORTS[:1] + REPORTS[2:] for place in ('mach', 'ias')
+                  for edge in ('below', 'low', 'high', 'above')]
                + [f'{kind}: a list of {count}' for kind in ('negative-ack', 'noncompliance') for count in (16, *COUNTS)]
                + [f'a character {octet}' for octet in (127, 128, 255)] + ['an entry 0 over', 'an entry 1 over']
                + [f'{family} {kind}: room {room}' for family, kind in ALL_KINDS for room in (-1, 'for it')]

@@ -23,7 +23,9 @@ BEFORE = 999
 GROUND = ('kind', 'what', 'scale', 'interval', 'address', 'projected-profile', 'ground-vector', 'air-vector', 'weather')
 AIR = ('kind', 'what', 'detail', 'count', 'elements', 'south', 'latitude', 'latitude-minutes', 'latitude-tenths', 'west', 'longitude',
        'longitude-minutes', 'longitude-tenths', 'level', 'year', 'month', 'day', 'has-seconds', 'hours', 'minutes', 'seconds', 'accuracy',
-       'units', 'avoidance', 'address')
+       'units', 'avoidance', 'address', 'ground-parts', 'track', 'ground-speed', 'ground-rate', 'air-parts', 'heading', 'air-speed', 'mach', 'ias',
+       'air-rate', 'weather-parts', 'wind-speed', 'wind-direction', 'temperature', 'turbulence')
+SIGNED = ('level', 'ground-speed', 'ground-rate', 'air-rate', 'temperature')     # "in two's complement"
 LINK_OCTETS, ANSWER_OCTETS, TIMERS = 77, 22, 9
 
 # The states of a record, by their numbers (enum adsc_dc_state and the four below it).
@@ -44,7 +46,8 @@ CALLS = {'request': 'req', 'user_abort': 'user-abort', 'elapse': 'elapse', 'star
          'data': 'data', 'end_confirm': 'end-cnf', 'peer_abort': 'peer-abort', 'air_abort': 'air-abort', 'down': 'down'}
 WORDS = ('write_ground', 'write_air', 'open', *CALLS)
 HEX = '((?:[0-9a-f]{2}){0,256})'
-LINE = re.compile(f'({"|".join(WORDS)}) {HEX} {HEX} {HEX}((?: {linkmodel.NUMBER}){{0,31}})')
+MOST_NUMBERS = 47
+LINE = re.compile(f'({"|".join(WORDS)}) {HEX} {HEX} {HEX}((?: {linkmodel.NUMBER}){{0,{MOST_NUMBERS}}})')
 
 # "Order. Calls: .. 29, 4, 1 or 2, then fields", and "6 last" (adsc.h). Each is a function of Calling.
 ORDER = ('bad_record', 'long_elapse', 'not_listed', 'bad_fields', 'no_room')
@@ -64,7 +67,8 @@ class Rules:
     order: tuple = ORDER
     room: int = ANSWER_OCTETS
     writer: type = percoder.Writer
-    signed: bool = True                 # "-75..10000 in two's complement"
+    signed: tuple = SIGNED
+    heading_by: str = 'air-parts'       # whose first presence bit announces the heading
     told: int = BEFORE                  # the length after a refused write: as it was
     short: int = 0                      # so many octets fewer than the PDU are room too
     spoils: tuple = ()                  # what changes though it stays: 'link', 'out', and 'past', what follows a good write
@@ -110,13 +114,27 @@ def signed(number):
     return number - (1 << 32 if number >> 31 else 0)
 
 
-def report_of(n, rules):
+def vectors_of(n, number, rules):
+    heading = n['air-parts'] & ~4 | n[rules.heading_by] & 4
+    speeds = {'mach': n['mach'], 'ias': n['ias'], 'both': {'mach': n['mach'], 'ias': n['ias']}}
+    kind = named(('mach', 'ias', 'both'), n['air-speed'])
+    return {
+        'ground-vector': {PRESENCE: n['ground-parts'], 'track': n['track'], 'speed': number('ground-speed'), 'rate': number('ground-rate')},
+        'air-vector': {PRESENCE: heading, 'heading': n['heading'], 'speed': (kind, speeds.get(kind)), 'rate': number('air-rate')},
+        'weather': {PRESENCE: n['weather-parts'], 'speed': n['wind-speed'], 'direction': n['wind-direction'],
+                    'temperature': number('temperature'), 'turbulence': n['turbulence']}}
+
+
+def report_of(n, rules, kind):
     def angle(sign, name):
         return {'sign': n[sign], 'degrees': n[name], 'minutes': n[name + '-minutes'], 'tenths': n[name + '-tenths']}
 
-    return {PRESENCE: n['elements'], 'address': n['address'],
-            'position': {'latitude': angle('south', 'latitude'), 'longitude': angle('west', 'longitude'),
-                         'level': signed(n['level']) if rules.signed else n['level']},
+    def number(name):
+        return signed(n[name]) if name in rules.signed else n[name]
+
+    elements = {'address': n['address'], **vectors_of(n, number, rules)}
+    return {PRESENCE: n['elements'], **{name: elements[name] for name, _ in TABLE[kind][1] if name in elements},
+            'position': {'latitude': angle('south', 'latitude'), 'longitude': angle('west', 'longitude'), 'level': number('level')},
             'time': {'date': {'year': n['year'], 'month': n['month'], 'day': n['day']},
                      'clock': {PRESENCE: n['has-seconds'], 'hours': n['hours'], 'minutes': n['minutes'], 'seconds': n['seconds']}},
             'merit': {'accuracy': n['accuracy'], 'first': n['units'], 'second': n['avoidance']}}
@@ -127,10 +145,11 @@ def air_value(numbers, octets, rules=RULES):
     count = min(n['count'], 17)         # over 16 is 12, however far
     octets = octets + bytes(128)        # "A list with fewer octets than entries has zeros for the others."
     names = [tuple(octets[8 * place:8 * place + 8]) for place in range(count)]
-    report = {PRESENCE: n['what'], 'ack': None, 'report': report_of(n, rules)}
+    report = {PRESENCE: n['what'], 'ack': None, 'report': report_of(n, rules, 'report')}
     name = named([name for name, _ in TABLE['air'][2]], n['kind'])
     return name, {
-        'demand-report': report, 'emergency': report, 'periodic-report': report,
+        'demand-report': report, 'periodic-report': report,
+        'emergency': {**report, 'report': report_of(n, rules, 'emergency-report')},
         'event-report': {**report, 'event-type': n['detail']},
         'negative-ack': {'request': n['what'], 'reason': (named([f'reason-{k}' for k in range(4)], n['detail']), names)},
         'noncompliance': (named(('demand', 'event', 'periodic'), n['what']), list(octets[:count])),

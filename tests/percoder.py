@@ -1,4 +1,4 @@
-"""A PER coder of both ADS PDU families, written from page 01 alone.
+"""A PER coder of both ADS PDU families, written from page 01; vectors and weather from the module of 002 (02, L1).
 
 It shares nothing with the box it is compared with. First the message table of 01, as data in the
 page's order and words; below it a coder that walks the table (ITU-T X.691, basic unaligned).
@@ -11,6 +11,7 @@ family is 'air' or 'ground'. Values are plain: whole numbers are int, NULL is No
 dict that lacks its absent parts. Only an absent interval reads as something: its default.
 """
 
+import functools
 import re
 from collections import namedtuple
 
@@ -37,6 +38,18 @@ RANGES = {
     'accuracy': (0, 7),
     'boolean': (0, 1),
     'address': (0, 2 ** 24 - 1),
+    'track': (1, 3600),                     # 002:4195
+    'ground-speed': (-50, 2200),            # 002:4060
+    'ground-rate': (-3000, 3000),           # 002:4277
+    'heading': (1, 3600),
+    'air-speed-index': (0, 2),
+    'mach': (500, 4000),                    # 002:4240
+    'ias': (0, 1100),                       # 002:4228
+    'air-rate': (-3000, 3000),
+    'wind-speed': (0, 300),                 # 002:4114
+    'wind-direction': (1, 360),
+    'temperature': (-400, 400),
+    'turbulence': (0, 15),
     'abort-reason': (0, 7),
     'request-type': (0, 7),
     'negative-reason': (0, 3),
@@ -85,11 +98,11 @@ TABLE = {
     'acked-event': ('fields', [('ack', 'null')], [('event-type', 'event-type*'), ('report', 'report*')]),
 
     'report': ('fields', [
-        ('address', 'address'), ('projected-profile', NOT_CARRIED), ('ground-vector', NOT_CARRIED),
-        ('air-vector', NOT_CARRIED), ('weather', NOT_CARRIED), ('short-term-intent', NOT_CARRIED),
+        ('address', 'address'), ('projected-profile', NOT_CARRIED), ('ground-vector', 'ground-vector'),
+        ('air-vector', 'air-vector'), ('weather', 'weather'), ('short-term-intent', NOT_CARRIED),
         ('extended-profile', NOT_CARRIED)],
         [('position', 'position'), ('time', 'time'), ('merit', 'merit')]),
-    'emergency-report': ('fields', [('address', 'address'), ('ground-vector', NOT_CARRIED)],
+    'emergency-report': ('fields', [('address', 'address'), ('ground-vector', 'ground-vector')],
                          [('position', 'position'), ('time', 'time'), ('merit', 'merit')]),
     'position': ('fields', [], [('latitude', 'latitude'), ('longitude', 'longitude'), ('level', 'level')]),
     'latitude': ('fields', [], [('sign', 'sign'), ('degrees', 'degrees-latitude'),
@@ -100,6 +113,13 @@ TABLE = {
     'date': ('fields', [], [('year', 'year'), ('month', 'month'), ('day', 'day')]),
     'clock': ('fields', [('seconds', 'seconds')], [('hours', 'hours'), ('minutes', 'minutes')]),
     'merit': ('fields', [], [('accuracy', 'accuracy'), ('first', 'boolean'), ('second', 'boolean')]),
+    # 002, "AirVector", "GroundVector", "MetInfo"
+    'ground-vector': ('fields', [('track', 'track'), ('speed', 'ground-speed'), ('rate', 'ground-rate')], []),
+    'air-vector': ('fields', [('heading', 'heading'), ('speed', 'air-speed'), ('rate', 'air-rate')], []),
+    'air-speed': ('choice', 'air-speed-index', [('mach', 'mach'), ('ias', 'ias'), ('both', 'mach-and-ias')]),
+    'mach-and-ias': ('fields', [], [('mach', 'mach'), ('ias', 'ias')]),
+    'weather': ('fields', [('speed', 'wind-speed'), ('direction', 'wind-direction'),
+                           ('temperature', 'temperature'), ('turbulence', 'turbulence')], []),
 
     'negative-ack': ('fields', [], [('request', 'request-type*'), ('reason', 'negative-reason-choice*')]),
     'negative-reason-choice': ('choice', 'negative-reason', [
@@ -340,3 +360,41 @@ def shift(name):
     for kind, *parts in TABLE.values():
         if kind == 'choice' and parts[0] == name:
             parts[1].append(('one-more', 'null'))
+
+
+def exchange(form, one, other):
+    """Two fields of a group in each other's place, with their presence bits."""
+    for part in TABLE[form][1:]:
+        places = [place for place, (name, _) in enumerate(part) if name in (one, other)]
+        for place, field in zip(places, [part[place] for place in reversed(places)]):
+            part[place] = field
+
+
+def extend(form, name):
+    """An extension bit before one field of a group."""
+    part = TABLE[form][1]
+    part[:] = [(other, content + '*' * (other == name)) for other, content in part]
+
+
+def offset(name):
+    """One range moved down by one: the octets stay good, and every number reads one less."""
+    low, high = RANGES[name]
+    RANGES[name] = (low - 1, high - 1)
+
+
+# Rules of vectors and weather changed, each alone, to test that a comparison finds it. Only a line for a person or a host's numbers show an offset.
+EXCHANGED = [('report', 'ground-vector', 'air-vector'), ('report', 'air-vector', 'weather'), ('report', 'address', 'ground-vector'),
+             ('report', 'weather', 'short-term-intent'), ('report', 'projected-profile', 'ground-vector'),
+             ('emergency-report', 'address', 'ground-vector'), ('ground-vector', 'track', 'speed'), ('ground-vector', 'speed', 'rate'),
+             ('air-vector', 'heading', 'speed'), ('air-vector', 'heading', 'rate'), ('mach-and-ias', 'mach', 'ias'),
+             ('weather', 'speed', 'direction'), ('weather', 'temperature', 'turbulence')]
+OFFSETS = {f'{name}.offset': functools.partial(offset, name) for name in (
+    'track', 'ground-speed', 'ground-rate', 'heading', 'mach', 'air-rate', 'wind-direction', 'temperature')}
+CHANGES = {
+    **{f'{form}.{one}.{other}': functools.partial(exchange, form, one, other) for form, one, other in EXCHANGED},
+    **{f'{form}.needs-one': functools.partial(NEEDS_ONE.add, form) for form in ('ground-vector', 'air-vector', 'weather')},
+    **{f'{form}.{name}.extension': functools.partial(extend, form, name) for form, name in (
+        ('report', 'ground-vector'), ('report', 'air-vector'), ('report', 'weather'), ('emergency-report', 'ground-vector'),
+        ('air-vector', 'speed'))},
+    **OFFSETS,
+}

@@ -66,6 +66,63 @@ def stamp(date, clock):
     return text + (f':{clock["seconds"]:02}' if 'seconds' in clock else '')
 
 
+def times_ten(number):
+    return f'{number * 10}'                             # 002: units of 10 feet per minute
+
+
+def tenths(number):
+    return f'{number // 10}.{number % 10}'              # 002: units of 0.1 degree; 1 and more
+
+
+def mach(number):
+    """002: units of 0.001; two or three decimals."""
+    text = f'{number // 1000}.{number % 1000:03}'
+    return text[:-1] if text.endswith('0') else text
+
+
+def quarters(number):
+    """002: units of 0.25 degree."""
+    sign = '-' if number < 0 else ''
+    return f'{sign}{abs(number) // 4}' + ('', '.25', '.5', '.75')[abs(number) % 4]
+
+
+def ground_vector(value):
+    yield 'ground vector'
+    if 'track' in value:
+        yield f'track {tenths(value["track"])}'
+    if 'speed' in value:
+        yield f'ground speed {value["speed"]} kt'
+    if 'rate' in value:
+        yield f'vertical rate {times_ten(value["rate"])} ft/min'
+
+
+def air_vector(value):
+    yield 'air vector'
+    if 'heading' in value:
+        yield f'heading {tenths(value["heading"])}'
+    if 'speed' in value:
+        kind, number = value['speed']
+        speeds = number if kind == 'both' else {kind: number}
+        if 'mach' in speeds:
+            yield f'mach {mach(speeds["mach"])}'
+        if 'ias' in speeds:
+            yield f'ias {speeds["ias"]} kt'
+    if 'rate' in value:
+        yield f'vertical rate {times_ten(value["rate"])} ft/min'
+
+
+def weather(value):
+    yield 'weather'
+    if 'direction' in value:
+        yield f'wind {value["direction"]}' + (f' at {value["speed"]} kt' if 'speed' in value else '')
+    elif 'speed' in value:
+        yield f'wind speed {value["speed"]} kt'
+    if 'temperature' in value:
+        yield f'temperature {quarters(value["temperature"])} C'
+    if 'turbulence' in value:
+        yield f'turbulence {value["turbulence"]}'
+
+
 def report(value):
     position, merit = value['position'], value['merit']
     yield angle(position['latitude'], 2, 'NS')
@@ -77,6 +134,8 @@ def report(value):
     yield f'acas {("no", "yes")[merit["second"]]}'
     if 'address' in value:
         yield f'aircraft {value["address"]:06x}'
+    for name, told in (('ground-vector', ground_vector), ('air-vector', air_vector), ('weather', weather)):
+        yield from told(value[name]) if name in value else ()
 
 
 def acked(kind, value):

@@ -6,6 +6,7 @@ Each kind of PDU, each name of each table, the ends of the ranges and what is ea
 refused. A few texts stand here as literals, and plaintext.py must agree with them.
 """
 
+import itertools
 import os
 import sys
 
@@ -28,6 +29,17 @@ WRITTEN = {
     'air': 'refused 7 (input ends inside a field)',
     'air ' + P13: 'air: demand report, 00 00 00.0 N, 000 00 00.0 E, level 0 ft, 1996-01-01 00:00, '
                   'accuracy 0 (complete loss), multiple units no, acas no',
+    # P13 with vectors and weather, packed by hand from 002; an emergency report with a ground speed and a rate of -1; half of an air vector and of weather
+    'air 0838000000000000012c00000001ea687d1681ce0e145230c4ef16be4ae7':
+        'air: demand report, 00 00 00.0 N, 000 00 00.0 E, level 0 ft, 1996-01-01 00:00, accuracy 0 (complete loss), multiple units no, acas no, '
+        'ground vector, track 271.5, ground speed 450 kt, vertical rate -1200 ft/min, air vector, heading 90.0, mach 0.825, ias 280 kt, '
+        'vertical rate 1500 ft/min, weather, wind 250 at 45 kt, temperature -56.5 C, turbulence 7',
+    'air 10800000000000004b0000000030315db8':
+        'air: emergency report, 00 00 00.0 N, 000 00 00.0 E, level 0 ft, 1996-01-01 00:00, accuracy 0 (complete loss), multiple units no, acas no, '
+        'ground vector, ground speed -1 kt, vertical rate -10 ft/min',
+    'air 3018000000000000012c00000000800060031e':
+        'air: periodic report, 00 00 00.0 N, 000 00 00.0 E, level 0 ft, 1996-01-01 00:00, accuracy 0 (complete loss), multiple units no, acas no, '
+        'air vector, mach 0.50, weather, wind 1, temperature -0.25 C',
 }
 
 
@@ -36,11 +48,12 @@ def angle(sign, degrees, minutes, tenths):
 
 
 def report(latitude=angle(0, 47, 12, 345), longitude=angle(0, 8, 45, 67), level=3500, date=(2026, 11, 15),
-           clock=(12, 34, 56), merit=(3, 1, 0), address=None):
+           clock=(12, 34, 56), merit=(3, 1, 0), address=None, **elements):
     value = {
         'position': {'latitude': latitude, 'longitude': longitude, 'level': level},
         'time': {'date': dict(zip(('year', 'month', 'day'), date)), 'clock': dict(zip(('hours', 'minutes', 'seconds'), clock))},
         'merit': dict(zip(('accuracy', 'first', 'second'), merit)),
+        **{name.replace('_', '-'): value for name, value in elements.items()},
     }
     return value if address is None else dict(value, address=address)
 
@@ -61,6 +74,57 @@ def reports():
             [{'merit': (7, first, second)} for first in (0, 1) for second in (0, 1)] +
             [{'address': address} for address in (0, 10, 0x0a0b0c, 0xffffff)]):
         yield 'periodic-report', {'report': report(**parts)}
+
+
+TRACKS = (1, 9, 10, 11, 900, 2715, 3599, 3600)
+RATES = (-3000, -2999, -120, -1, 0, 1, 10, 2999, 3000)
+SPEEDS = [('mach', number) for number in (500, 501, 510, 825, 820, 999, 1000, 1001, 1010, 1100, 3999, 4000)] + [
+    ('ias', number) for number in (0, 1, 10, 280, 1099, 1100)] + [
+    ('both', {'mach': number, 'ias': other}) for number in (500, 1000, 4000) for other in (0, 280, 1100)]
+# What has to be shown rightly where it is: each number of each part.
+GROUND_PARTS = {'track': TRACKS, 'speed': (-50, -49, -1, 0, 1, 450, 2199, 2200), 'rate': RATES}
+AIR_PARTS = {'heading': TRACKS, 'speed': SPEEDS, 'rate': RATES}
+WEATHER_PARTS = {'speed': (0, 1, 45, 300), 'direction': (1, 99, 250, 360),
+                 'temperature': (-400, -399, -398, -397, -227, -226, -225, -224, -5, -4, -3, -2, -1, 0, 1, 2, 3, 4, 5, 399, 400),
+                 'turbulence': range(16)}
+
+
+def parted(parts):
+    """Each number of each part, alone; each set of parts."""
+    yield from ({name: number} for name, numbers in parts.items() for number in numbers)
+    for count in range(len(parts) + 1):
+        for names in itertools.combinations(parts, count):
+            yield {name: parts[name][len(parts[name]) // 2] for name in names}
+
+
+def elements():
+    """Vectors and weather: each alone, with each of its values; each set of them; the least and the most."""
+    middle = {'ground_vector': {'track': 2715, 'speed': 450, 'rate': -120},
+              'air_vector': {'heading': 900, 'speed': ('both', {'mach': 820, 'ias': 280}), 'rate': 0},
+              'weather': {'speed': 45, 'direction': 250, 'temperature': -226, 'turbulence': 7}}
+    for name, parts in (('ground_vector', GROUND_PARTS), ('air_vector', AIR_PARTS), ('weather', WEATHER_PARTS)):
+        yield from ({name: value} for value in parted(parts))
+    for count in range(len(middle) + 1):
+        for names in itertools.combinations(middle, count):
+            yield {name: middle[name] for name in names}
+            yield dict.fromkeys(names, {})
+    yield {'ground_vector': {'track': 1, 'speed': -50, 'rate': -3000}, 'weather': {'speed': 0, 'direction': 1, 'temperature': -400, 'turbulence': 0},
+           'air_vector': {'heading': 1, 'speed': ('both', {'mach': 500, 'ias': 0}), 'rate': -3000}}
+    yield {'ground_vector': {'track': 3600, 'speed': 2200, 'rate': 3000}, 'weather': {'speed': 300, 'direction': 360, 'temperature': 399, 'turbulence': 15},
+           'air_vector': {'heading': 3600, 'speed': ('both', {'mach': 3999, 'ias': 1100}), 'rate': 3000}}
+    yield {'ground_vector': {'track': 3600, 'speed': 2200, 'rate': -3000}, 'weather': {'speed': 300, 'direction': 360, 'temperature': -399, 'turbulence': 15},
+           'air_vector': {'heading': 3600, 'speed': ('both', {'mach': 3999, 'ias': 1100}), 'rate': -3000}}
+
+
+def vectors():
+    for parts in elements():
+        yield 'demand-report', {'report': report(**parts)}
+    for kind, more in (('periodic-report', {}), ('event-report', {'event-type': 7})):
+        for parts in list(elements())[-18:]:
+            yield kind, {'ack': None, **more, 'report': report(address=0x4b1234, **parts)}
+    for value in parted(GROUND_PARTS):
+        yield 'emergency', {'ack': None, 'report': report(address=0x4b1234, ground_vector=value)}
+        yield 'emergency', {'report': report(ground_vector=value)}
 
 
 def named(*names):
@@ -103,7 +167,7 @@ def grounds():
 
 
 def values():
-    for make in (reports, acks, noncompliances):
+    for make in (reports, vectors, acks, noncompliances):
         yield from (('air', value) for value in make())
     yield 'air', ('cancel-emergency', None)
     yield from (('ground', value) for value in grounds())

@@ -50,6 +50,43 @@ for level, number in ((-76, 5), (-75, 0), (10000, 0), (10001, 5)):
     wanted = f'5 999  {A5}' if number else f'6 999  {A5}'       # 6 comes last: the report has 14 octets
     check(f'level {level}', f'write_air   {A5} 1' + ' 0' * 12 + f' {level % 2 ** 32} 1996 1 1', wanted)
 
+# Vectors and weather, numbers 25 to 39: P13 with all three and with some parts (the octets are packed by hand from 002), each end and one step beyond it.
+FIX, VECTORS = ' 0' * 8 + ' 0 1996 1 1' + ' 0' * 8, [0] * 15
+
+
+def report(kind, elements, numbers, room=31):
+    """A line that writes P13 with these elements and numbers."""
+    n = [number % 2 ** 32 for number in numbers]
+    return f'write_air   {"a5" * room} {kind} 0 0 0 {elements}{FIX} {" ".join(map(str, n))}'
+
+
+def wrote(octets, room=31):
+    return f'0 {len(octets) // 2}  {octets}' + 'a5' * (room - len(octets) // 2)
+
+
+check('all three', report(1, 28, [7, 2715, 450, -120, 7, 900, 2, 825, 280, 150, 15, 45, 250, -226, 7]),
+      wrote('0838000000000000012c00000001ea687d1681ce0e145230c4ef16be4ae7'))
+check('below zero, in an emergency', report(2, 1, [3, 0, -1, -1]), wrote('10800000000000004b0000000030315db8'))
+check('what is not announced is not looked at', report(6, 12, [9, 0, 99999, 9, 2, 0, 0, 500, 9999, 9999, 6, 999, 1, -1, 99]),
+      wrote('3018000000000000012c00000000800060031e'))
+check('nothing in them', report(1, 28, VECTORS), wrote('0838000000000000012c000000000000'))
+check('25 numbers', report(1, 28, []).rstrip(), wrote('0838000000000000012c000000000000'))
+check('6 comes last', report(1, 28, VECTORS, 15), '6 999  ' + 'a5' * 15)
+for what, elements in (('projected profile', 32), ('short-term intent', 2), ('extended profile', 1), ('one of two', 20 + 2)):
+    check(f'{what} is not carried', report(1, elements, [8] * 15), '10 999  ' + 'a5' * 31)
+for element, parts, bit, place, low, high in (
+        (16, 25, 4, 26, 1, 3600), (16, 25, 2, 27, -50, 2200), (16, 25, 1, 28, -3000, 3000), (8, 29, 4, 30, 1, 3600), (8, 29, 1, 34, -3000, 3000),
+        (4, 35, 8, 36, 0, 300), (4, 35, 4, 37, 1, 360), (4, 35, 2, 38, -400, 400), (4, 35, 1, 39, 0, 15)):
+    for number in (low - 1, low, high, high + 1):
+        numbers = list(VECTORS)
+        numbers[parts - 25], numbers[place - 25] = bit, number
+        check(f'number {place}: {number}', report(1, element, numbers, 13), ('6' if low <= number <= high else '5') + ' 999  ' + 'a5' * 13)
+for kind, mach, ias, number in ((0, 499, 0, 5), (0, 500, 9999, 6), (0, 4001, 0, 5), (1, 9999, 1100, 6), (1, 500, 1101, 5), (1, 500, -1, 5),
+                                (2, 499, 0, 5), (2, 4000, 1100, 6), (2, 4000, 1101, 5), (3, 500, 0, 5), (2 ** 31, 500, 0, 5)):
+    check(f'air speed {kind} {mach} {ias}', report(1, 8, [0] * 4 + [2, 0, kind, mach, ias], 13), f'{number} 999  ' + 'a5' * 13)
+for parts, element, over in ((25, 16, 8), (29, 8, 8), (35, 4, 16)):
+    check(f'number {parts}: bits that do not fit', report(1, element, [over if place == parts else 1 for place in range(25, 40)]), '5 999  ' + 'a5' * 31)
+
 # Records: nine settings of 60, the seconds left, the states of DC, EC, PC, EM and LI.
 NONE, OUT = [0] * 9, 'a5' * 22
 

@@ -1,4 +1,4 @@
-"""Checks of percoder.py against page 01: its examples, encodings worked out by hand, refusals."""
+"""Checks of percoder.py against page 01 and the vectors and weather of 002: examples, encodings worked out by hand, refusals."""
 
 import random
 import sys
@@ -76,6 +76,49 @@ FULL_BITS = ('1 0101101 000111 1001010111  0 10110100 111011 0000000001  1001110
 # Lowest of everything: level -75 goes as 0.
 LOW_BITS = '0' * (24 + 25 + 14 + 16 + 1 + 11 + 5)
 
+# Vectors and weather (002): presence bits, then what is there. Signed numbers go plus 50, 3000, 400.
+SWIFT = {'track': 2715, 'speed': 450, 'rate': -120}
+SWIFT_BITS = '111 101010011010 000111110100 0101101000000'
+SLOW = {'track': 1, 'speed': -50, 'rate': -3000}
+SLOW_BITS = '111 000000000000 000000000000 0000000000000'
+FAST = {'track': 3600, 'speed': 2200, 'rate': 3000}
+FAST_BITS = '111 111000001111 100011001010 1011101110000'
+CLIMB = {'heading': 900, 'speed': ('both', {'mach': 825, 'ias': 280}), 'rate': 150}
+CLIMB_BITS = '111 001110000011 10 000101000101 00100011000 0110001001110'
+COLD = {'speed': 45, 'direction': 250, 'temperature': -226, 'turbulence': 7}
+COLD_BITS = '1111 000101101 011111001 0010101110 0111'
+ALL = {'ground-vector': SWIFT, 'air-vector': CLIMB, 'weather': COLD}
+VECTORS = [
+    (ALL, '0011100', SWIFT_BITS + CLIMB_BITS + COLD_BITS),
+    ({'ground-vector': SLOW}, '0010000', SLOW_BITS),
+    ({'ground-vector': FAST}, '0010000', FAST_BITS),
+    ({'ground-vector': {}}, '0010000', '000'),
+    ({'ground-vector': {'track': 3600}}, '0010000', '100 111000001111'),
+    ({'ground-vector': {'speed': -1}}, '0010000', '010 000000110001'),
+    ({'ground-vector': {'speed': 0}}, '0010000', '010 000000110010'),
+    ({'ground-vector': {'rate': 0}}, '0010000', '001 0101110111000'),
+    ({'ground-vector': {'rate': -1}}, '0010000', '001 0101110110111'),
+    ({'air-vector': {}}, '0001000', '000'),
+    ({'air-vector': {'heading': 1}}, '0001000', '100 000000000000'),
+    ({'air-vector': {'heading': 3600}}, '0001000', '100 111000001111'),
+    ({'air-vector': {'speed': ('mach', 500)}}, '0001000', '010 00 000000000000'),
+    ({'air-vector': {'speed': ('mach', 4000)}}, '0001000', '010 00 110110101100'),
+    ({'air-vector': {'speed': ('ias', 0)}}, '0001000', '010 01 00000000000'),
+    ({'air-vector': {'speed': ('ias', 1100)}}, '0001000', '010 01 10001001100'),
+    ({'air-vector': {'speed': ('both', {'mach': 4000, 'ias': 0})}}, '0001000', '010 10 110110101100 00000000000'),
+    ({'air-vector': {'heading': 1, 'rate': 3000}}, '0001000', '101 000000000000 1011101110000'),
+    ({'weather': {}}, '0000100', '0000'),
+    ({'weather': {'speed': 300}}, '0000100', '1000 100101100'),
+    ({'weather': {'direction': 1}}, '0000100', '0100 000000000'),
+    ({'weather': {'direction': 360}}, '0000100', '0100 101100111'),
+    ({'weather': {'temperature': -400}}, '0000100', '0010 0000000000'),
+    ({'weather': {'temperature': 0}}, '0000100', '0010 0110010000'),
+    ({'weather': {'temperature': 400}}, '0000100', '0010 1100100000'),
+    ({'weather': {'turbulence': 15}}, '0000100', '0001 1111'),
+    ({'ground-vector': {'rate': 1}, 'weather': {'speed': 0}}, '0010100', '001 0101110111001 1000 000000000'),
+    ({'air-vector': {}, 'weather': {}}, '0001100', '000 0000'),
+]
+
 HAND = [
     # air: extension bit, 4 bits of index
     ('air', ('cancel-emergency', None), '0 0000'),
@@ -118,6 +161,16 @@ HAND = [
 ]
 for family, value, text in HAND:
     same(f'{family} {value[0]}', family, value, bits(text))
+for elements, presence, text in VECTORS:
+    for kind, before, more in (('demand-report', '0 0001  0 0', {}), ('periodic-report', '0 0110  0 0', {}),
+                               ('event-report', '0 0011  0 0  0 1011', {'event-type': 11})):
+        same(f'{kind} {elements}', 'air', (kind, {**more, 'report': report(-75, **elements)}), bits(before + '0' + presence + LOW_BITS + text))
+    addressed = {'ack': None, 'report': {**FULL, **elements}}
+    same(f'address {elements}', 'air', ('periodic-report', addressed), bits('0 0110  0 1  0 1' + presence[1:] + FULL_BITS + text))
+    if list(elements) == ['ground-vector']:
+        same(f'emergency {elements}', 'air', ('emergency', {'report': report(-75, **elements)}), bits('0 0010  0 0  01' + LOW_BITS + text))
+        same(f'emergency, address {elements}', 'air', ('emergency', addressed), bits('0 0010  0 1  11' + FULL_BITS + text))
+check('octets of all three', len(write('air', ('demand-report', {'report': report(**ALL)}))), 30)
 check('kinds by hand', len({(family, value[0]) for family, value, _ in HAND}), 9 + 8)
 
 # An interval of 5 minutes is never sent, absent or named.
@@ -156,8 +209,9 @@ for what, family, value, wanted in [
         ('abort reason 8', 'ground', ('provider-abort', 8), 5),
         ('event type 11 in a list', 'air', ('noncompliance', ('event', [11])), 5),
         ('character 128', 'air', names(1, (0,) * 7 + (128,)), 5),
-        ('report element', 'air', plain(report(weather=None)), 10),
-        ('emergency element', 'air', ('emergency', {'report': report(**{'ground-vector': None})}), 10),
+        *((f'report element {name}', 'air', plain(report(**{name: None})), 10)
+          for name in ('projected-profile', 'short-term-intent', 'extended-profile')),
+        ('presence before a vector', 'air', plain(report(**{'ground-vector': {'track': 0}, 'short-term-intent': None})), 10),
         ('demand element', 'ground', ('demand-contract', {'short-term-intent': None}), 10),
         ('periodic element', 'ground', ('periodic-contract', {'extended-profile': 1}), 10),
         ('event element', 'ground', ('event-contract', {'waypoint-change': None, 'element-11': None}), 10),
@@ -165,8 +219,8 @@ for what, family, value, wanted in [
         ('17 names', 'air', names(17), 12),
         ('17 types', 'air', ('noncompliance', ('demand', [0] * 17)), 12),
         ('no element', 'ground', ('event-contract', {}), 15),
-        ('presence before level', 'air', plain(report(20000, weather=None)), 10),
-        ('event type before presence', 'air', ('event-report', {'event-type': 12, 'report': report(weather=None)}), 5),
+        ('presence before level', 'air', plain(report(20000, **{'extended-profile': None})), 10),
+        ('event type before presence', 'air', ('event-report', {'event-type': 12, 'report': report(**{'extended-profile': None})}), 5),
         ('count before entry', 'air', ('noncompliance', ('demand', [9] * 17)), 12),
         ('count before character', 'air', names(17, (200,) * 8), 12),
         ('request type before count', 'air', names(17, request=8), 5),
@@ -174,17 +228,52 @@ for what, family, value, wanted in [
          ('periodic-contract', {'interval': ('seconds', 0), 'extended-profile': 1}), 10)]:
     check(what, refusal(write, family, value), wanted)
 
+# One step beyond each end of each number of a vector or weather, to write (5); where its bits hold it, to read (8).
+ENDS = [('ground-vector', 'track', 1, 3600), ('ground-vector', 'speed', -50, 2200), ('ground-vector', 'rate', -3000, 3000),
+        ('air-vector', 'heading', 1, 3600), ('air-vector', 'rate', -3000, 3000), ('weather', 'speed', 0, 300),
+        ('weather', 'direction', 1, 360), ('weather', 'temperature', -400, 400), ('weather', 'turbulence', 0, 15)]
+for element, name, low, high in ENDS:
+    for number in (low - 1, high + 1):
+        check(f'{element} {name} {number}', refusal(write, 'air', plain(report(**{element: {name: number}}))), 5)
+    for number in (low, high):
+        value = plain(report(**{element: {name: number}}))
+        check(f'{element} {name} {number}', refusal(read, 'air', write('air', value)), value)
+for kind, low, high in (('mach', 500, 4000), ('ias', 0, 1100)):
+    for number in (low - 1, high + 1):
+        both = {'mach': 500, 'ias': 0, kind: number}
+        for speed in ((kind, number), ('both', both)):
+            check(f'{speed}', refusal(write, 'air', plain(report(**{'air-vector': {'speed': speed}}))), 5)
+check('no such air speed', refusal(write, 'air', plain(report(**{'air-vector': {'speed': ('neither', 600)}}))), 5)
+for what, presence, text, wanted in [
+        ('track', '0010000', '100 111000010000', 8), ('ground speed', '0010000', '010 100011001011', 8),
+        ('rate', '0010000', '001 1011101110001', 8), ('heading', '0001000', '100 111000010000', 8),
+        ('mach', '0001000', '010 00 110110101101', 8), ('ias', '0001000', '010 01 10001001101', 8),
+        ('ias of both', '0001000', '010 10 000000000000 10001001101', 8), ('air rate', '0001000', '001 1011101110001', 8),
+        ('wind speed', '0000100', '1000 100101101', 8), ('wind direction', '0000100', '0100 101101000', 8),
+        ('temperature', '0000100', '0010 1100100001', 8),
+        ('air speed index', '0001000', '010 11', 8), ('air speed index before a rate', '0001000', '011 11 1111111111111', 8),
+        ('a track before a weather', '0010100', '100 111000010000 1000 111111111', 8)]:
+    check(f'read {what}', refusal(read, 'air', bits('0 0001  0 0  0' + presence + LOW_BITS + text)), wanted)
+for presence, wanted in (('0100000', 10), ('0000010', 10), ('0000001', 10), ('0111111', 10), ('0010010', 10)):
+    check(f'presence {presence}', refusal(read, 'air', bits('0 0001  0 0  0' + presence + LOW_BITS)), wanted)
+# An input that ends anywhere in the three elements.
+whole = write('air', ('demand-report', {'report': report(**ALL)}))
+for size in range(len(whole)):
+    check(f'{size} octets of {len(whole)}', refusal(read, 'air', whole[:size]), 7)
+
 # Presence bits as one number, as a host gives them: judged whole at their place, and what they do not announce is no part of the value.
-WITH_BITS = {PRESENCE: 64, **FULL, 'weather': None}
+WITH_BITS = {PRESENCE: 64, **FULL, 'weather': {PRESENCE: 15, 'turbulence': 16}}
 check('presence bits', refusal(write, 'air', plain(WITH_BITS)), write('air', plain(FULL)))
 check('presence bits, one absent', refusal(write, 'air', plain(report(**{PRESENCE: 0, 'address': 2 ** 24}))), write('air', plain(report())))
 for what, family, value, wanted in [
-        ('presence bit not carried', 'air', plain({**WITH_BITS, PRESENCE: 4}), 10),
+        ('presence bit not carried', 'air', plain({**WITH_BITS, PRESENCE: 2}), 10),
+        ('presence bits of weather that do not fit', 'air', plain(report(**{PRESENCE: 4, 'weather': {PRESENCE: 16}})), 5),
+        ('presence bits of a vector that do not fit', 'air', plain(report(**{PRESENCE: 16, 'ground-vector': {PRESENCE: 8}})), 5),
         ('presence bits that do not fit', 'air', plain({**WITH_BITS, PRESENCE: 128}), 5),
-        ('presence bits that do not fit, one not carried', 'air', plain({**WITH_BITS, PRESENCE: 132}), 5),
+        ('presence bits that do not fit, one not carried', 'air', plain({**WITH_BITS, PRESENCE: 130}), 5),
         ('presence bits below 0', 'air', plain({**WITH_BITS, PRESENCE: -1}), 5),
-        ('presence bits before level', 'air', plain(report(20000, **{PRESENCE: 4})), 10),
-        ('ack before presence bits', 'air', ('demand-report', {PRESENCE: 2, 'ack': None, 'report': report(**{PRESENCE: 4})}), 5),
+        ('presence bits before level', 'air', plain(report(20000, **{PRESENCE: 2})), 10),
+        ('ack before presence bits', 'air', ('demand-report', {PRESENCE: 2, 'ack': None, 'report': report(**{PRESENCE: 2})}), 5),
         ('no presence bit', 'ground', ('event-contract', {PRESENCE: 0}), 15),
         ('eleven presence bits', 'ground', ('event-contract', {PRESENCE: 2048}), 5)]:
     check(what, refusal(write, family, value), wanted)

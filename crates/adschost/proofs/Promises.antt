@@ -1,34 +1,39 @@
 -- What is promised of PDUs as numbers. Assumes nothing.
-use Prim.Native.Nat.{ℕ, _≤_, _<_}
+use Prim.Native.Nat.{ℕ, _<_}
 use mathlib.Core.Path.{_≡_, refl, sym, ap, _∙_}
 use mathlib.Core.List.{List}
 use mathlib.Core.Bool.{Bool, true, false}
 use native.Mathlib.Omega.{arith}
 use lib.Dec.{eqb}
 use lib.ListN.{length, getD, length-replicate}
-use lib.Signed.{mag}
 use Rattle.per.specs.Codec.{first}
-use Rattle.per.specs.Formats.{field, dep, via, absent, when, num, index, altCodec, choice}
+use Rattle.per.specs.Formats.{field, dep, via, absent, when, ext, num, index, altCodec, choice}
 use Rattle.per.specs.laws.Codec.{first-1}
 use Rattle.per.specs.Pdu.{encode, got, readPdu}
 use Rattle.per.specs.Writing.{Delivered}
-use Rattle.pdu_parts.specs.AirParts.{ackedC, ackedEmergencyC, negativeC, noncomplianceC, entryTop}
+use Rattle.pdu_parts.specs.AirParts.{ackedC, ackedEmergencyC, eventReportC, negativeC, noncomplianceC, entryTop}
 use Rattle.pdu_parts.specs.Lists.{entriesC, namesC, noList}
 use Rattle.pdu_parts.proofs.ListNorms.{listed-full}
-use Rattle.pdu_parts.proofs.ReportLevels.{report-level, emergency-level, event-level}
+use Rattle.pdu_parts.proofs.ReportSigns.{ReportSmall, report-small, EmergencySmall, emergency-small}
+use Rattle.pdu_parts.specs.Reports.{reportC, emergencyReportC}
+use Rattle.pdu_parts.specs.declared.report.Report.{Report}
+use Rattle.pdu_parts.specs.declared.report.EmergencyReport.{EmergencyReport}
+use Rattle.pdu_parts.specs.declared.acked.EventReport.{EventReport}
 use Rattle.pdu_parts.specs.declared.lists.Listed.{Listed}
 use Rattle.pdu.specs.declared.uplink.Ground.{Ground}
 use Rattle.pdu.specs.UplinkTable.{groundC}
 use Rattle.pdu.specs.declared.downlink.Air.{Air}
 use Rattle.pdu.specs.declared.downlink.Air.the-variants as air
 use Rattle.pdu.specs.declared.downlink.AirPdu.{AirPdu}
+use Rattle.pdu.specs.Contents.{reportOf, emergencyOf, eventOf}
 use Rattle.pdu.specs.DownlinkTable.{airAlt, airC}
 use Rattle.pdu.proofs.DownlinkNorms.{air-norm}
 use Rattle.pdu.proofs.Promises.{air-read, ground-read}
 use Rattle.host_numbers.specs.UplinkNumbers.{flatGround, groundAt}
 use Rattle.host_numbers.specs.DownlinkNumbers.{flatAir, airAt}
 use Rattle.host_numbers.specs.laws.UplinkBack.{ground-back}
-use Rattle.host_numbers.specs.laws.DownlinkBack.{levelIn, listFor, pdu-back}
+use Rattle.host_numbers.specs.laws.ReportBack.{ReportHolds}
+use Rattle.host_numbers.specs.laws.DownlinkBack.{EmergencyHolds, AirHolds, listFor, pdu-back}
 use Rattle.adschost.specs.Flatness.{AirShown, ShowsAir, GroundShown, ShowsGround, WritesFlat}
 
 -- "one possible result and one possible content of each lent buffer"
@@ -53,18 +58,38 @@ list-own (air.Periodic a) l e = ap (λ (x : AirPdu). x .list) (sym (air-norm (ai
 list-own (air.Positive n) l e = ap (λ (x : AirPdu). x .list) (sym (air-norm (air.Positive n) l) ∙ e)
 list-own (air.Abort n) l e = ap (λ (x : AirPdu). x .list) (sym (air-norm (air.Abort n) l) ∙ e)
 
--- a value that is read may be written: its level is of -75 to 10000, and its list is a whole array
-level-own : (k : Air) (l : Listed) → airC .chk (record { kind = k; list = l }) ≡ 0 → mag (levelIn k) ≤ 10000
+-- a value that is read may be written and has no part that is not sent, so 32 bits hold its numbers with a sign
+report-holds : (r : Report) → reportC .chk r ≡ 0 → reportC .norm r ≡ r → ReportHolds r
+report-holds r h e =
+    let s : ReportSmall r = rw e at (report-small r h) in
+    record {
+      level = omega (arith, s .level);
+      speed = omega (arith, s .ground .0);
+      rate = omega (arith, s .ground .1);
+      climb = omega (arith, s .air);
+      temperature = omega (arith, s .weather);
+    }
+
+emergency-holds : (r : EmergencyReport) → emergencyReportC .chk r ≡ 0 → emergencyReportC .norm r ≡ r → EmergencyHolds r
+emergency-holds r h e =
+    let s : EmergencySmall r = rw e at (emergency-small r h) in
+    record { level = omega (arith, s .level); speed = omega (arith, s .ground .0); rate = omega (arith, s .ground .1) }
+
+event-chk : (a : EventReport) → eventReportC .chk a ≡ 0 → reportC .chk (a .report) ≡ 0
+unfolding eventReportC via dep field
+event-chk a h = first-1 (ext (num 0 11) .chk (a .event)) (reportC .chk (a .report)) h
+
+holds-own : (k : Air) (l : Listed) → airC .chk (record { kind = k; list = l }) ≡ 0 → airC .norm (record { kind = k; list = l }) ≡ record { kind = k; list = l } → AirHolds k
 unfolding airC airAlt ackedC ackedEmergencyC choice altCodec via dep field
-level-own air.CancelEmergency l h = omega arith
-level-own (air.Demand a) l h = report-level (a .report) h
-level-own (air.Emergency a) l h = emergency-level (a .report) h
-level-own (air.Event a) l h = event-level a h
-level-own (air.Negative a) l h = omega arith
-level-own (air.Noncompliance n) l h = omega arith
-level-own (air.Periodic a) l h = report-level (a .report) h
-level-own (air.Positive n) l h = omega arith
-level-own (air.Abort n) l h = omega arith
+holds-own air.CancelEmergency l h e = tt
+holds-own (air.Demand a) l h e = report-holds (a .report) h (ap (λ (x : AirPdu). reportOf (x .kind) .report) e)
+holds-own (air.Emergency a) l h e = emergency-holds (a .report) h (ap (λ (x : AirPdu). emergencyOf (x .kind) .report) e)
+holds-own (air.Event a) l h e = report-holds (a .report) (event-chk a h) (ap (λ (x : AirPdu). eventOf (x .kind) .report) (sym (air-norm (air.Event a) l) ∙ e))
+holds-own (air.Negative a) l h e = tt
+holds-own (air.Noncompliance n) l h e = tt
+holds-own (air.Periodic a) l h e = report-holds (a .report) h (ap (λ (x : AirPdu). reportOf (x .kind) .report) e)
+holds-own (air.Positive n) l h e = tt
+holds-own (air.Abort n) l h e = tt
 
 names-full : (b : Bool) (l : Listed) → when b noList namesC .chk l ≡ 0 → length (when b noList namesC .norm l .items) ≡ 128
 unfolding when absent
@@ -90,9 +115,8 @@ pub air-round : (s : List ℕ) (a : AirPdu) → ((i : ℕ) → getD s i 0 < 256)
     → encode airC (airAt (flatAir (a .kind) (a .list .count)) (a .list .items)) ≡ s
 air-round s a f e =
     let k = air-read s a f e in
-    let level : mag (levelIn (a .kind)) < 2147483648 = omega (arith, level-own (a .kind) (a .list) (k .0)) in
     let long : length (a .list .items) ≡ 128 = sym (ap (λ (x : AirPdu). length (x .list .items)) (k .1)) ∙ read-full (a .kind) (a .list) (k .0) in
-    ap (encode airC) (pdu-back a level long (list-own (a .kind) (a .list) (k .1))) ∙ k .2
+    ap (encode airC) (pdu-back a (holds-own (a .kind) (a .list) (k .0) (k .1)) long (list-own (a .kind) (a .list) (k .1))) ∙ k .2
 
 pub ground-round : (s : List ℕ) (g : Ground) → ((i : ℕ) → getD s i 0 < 256) → readPdu groundC s ≡ got g → encode groundC (groundAt (flatGround g)) ≡ s
 ground-round s g f e = ap (encode groundC) (ground-back g) ∙ ground-read s g f e .2

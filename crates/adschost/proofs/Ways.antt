@@ -22,18 +22,18 @@ use Rattle.adschost.specs.Flatness.{airShown, ShowsAir, groundShown, Sho
 -- ---- reading: what `decode_air` gave is the reading that the definition names
 module _ (r x : AirReading) (e : r ≡ x) (f l : List ℕ) where
   module _ (k : Air) (g : r .answer ≡ air.Good k) where
-    pub few-numbers : length f < 25 → ShowsAir (airShown x f l) 6 f l
+    pub few-numbers : length f < 40 → ShowsAir (airShown x f l) 6 f l
     unfolding airShown
-    few-numbers h = rw (← e, g, lt-ltb (length f) 25 h) (record { number-is = refl; numbers-are = refl; list-is = refl })
+    few-numbers h = rw (← e, g, lt-ltb (length f) 40 h) (record { number-is = refl; numbers-are = refl; list-is = refl })
 
-    module _ (h : 25 ≤ length f) where
+    module _ (h : 40 ≤ length f) where
       pub short-list : length l < 128 → ShowsAir (airShown x f l) 6 f l
       unfolding airShown
-      short-list m = rw (← e, g, le-ltb (length f) 25 h, lt-ltb (length l) 128 m) (record { number-is = refl; numbers-are = refl; list-is = refl })
+      short-list m = rw (← e, g, le-ltb (length f) 40 h, lt-ltb (length l) 128 m) (record { number-is = refl; numbers-are = refl; list-is = refl })
 
       pub air-there : 128 ≤ length l → (u v : List ℕ) → u ≡ sets f 0 (flatAir k (r .list .count)) → v ≡ sets l 0 (r .list .items) → ShowsAir (airShown x f l) 0 u v
       unfolding airShown
-      air-there m u v p q = rw (← e, g, le-ltb (length f) 25 h, le-ltb (length l) 128 m) (record { number-is = refl; numbers-are = p; list-is = q })
+      air-there m u v p q = rw (← e, g, le-ltb (length f) 40 h, le-ltb (length l) 128 m) (record { number-is = refl; numbers-are = p; list-is = q })
 
   pub air-refused : (n : ℕ) → r .answer ≡ air.Refused n → ShowsAir (airShown x f l) n f l
   unfolding airShown

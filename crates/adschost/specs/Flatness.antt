@@ -15,6 +15,7 @@ use Rattle.pdu.specs.declared.AirAnswer.the-variants as air
 use Rattle.pdu.specs.declared.AirReading.{AirReading}
 use Rattle.pdu.specs.declared.GroundAnswer.{GroundAnswer}
 use Rattle.pdu.specs.declared.GroundAnswer.the-variants as ground
+use Rattle.host_numbers.specs.Places.{A-NUMBERS}
 use Rattle.host_numbers.specs.UplinkNumbers.{flatGround}
 use Rattle.host_numbers.specs.DownlinkNumbers.{flatAir}
 use Rattle.refusals.specs.Refusals.{NO-ROOM}
@@ -28,7 +29,7 @@ pub record AirShown : Type 0 where
 abbrev pub airShownBy : AirAnswer → Listed → List ℕ → List ℕ → AirShown
 airShownBy (air.Refused n) x f l = record { number = n; numbers = f; list = l }
 airShownBy (air.Good kind) x f l =
-    pick (ltb (length f) 25) (record { number = NO-ROOM; numbers = f; list = l })
+    pick (ltb (length f) A-NUMBERS) (record { number = NO-ROOM; numbers = f; list = l })
     (pick (ltb (length l) 128) (record { number = NO-ROOM; numbers = f; list = l })
     (record { number = 0; numbers = sets f 0 (flatAir kind (x .count)); list = sets l 0 (x .items) }))
 

@@ -3,6 +3,7 @@ use host_numbers::copy::copy_numbers;
 use host_numbers::copy::put_items;
 use host_numbers::downlink::air_at;
 use host_numbers::downlink::flat_air;
+use host_numbers::places::A_NUMBERS;
 use host_numbers::uplink::flat_ground;
 use host_numbers::uplink::ground_at;
 use pdu::AirAnswer;
@@ -23,7 +24,7 @@ ghost use Rattle.host_numbers.specs.UplinkNumbers.{groundAt};
 ghost use Rattle.host_numbers.specs.DownlinkNumbers.{airAt};
 ghost use Rattle.adschost.specs.Flatness.{airShown, ShowsAir, groundShown, ShowsGround, numberOf, lengthOf, WritesFlat};
 
-// An aircraft PDU as 25 numbers and the 128 octets of its list.
+// An aircraft PDU as 40 numbers and the 128 octets of its list.
 #[no_mangle]
 pub extern "C" fn adsc_read_air(octets: &[u8], numbers: &mut [u32], list: &mut [u8]) -> u8
     ensures { λ r. ⌜ ShowsAir (airShown (airReading (readPdu airC (now (octets .entry)))) (now (numbers .entry)) (now (list .entry))) r (now (numbers .exit)) (now (list .exit)) ⌝ }
@@ -32,7 +33,7 @@ pub extern "C" fn adsc_read_air(octets: &[u8], numbers: &mut [u32], list: &mut [
     let answer = r.answer;
     match answer {
         AirAnswer::Good(kind) => {
-            if numbers.len() < 25 {
+            if numbers.len() < A_NUMBERS {
                 return NO_ROOM;
             }
             if list.len() < 128 {

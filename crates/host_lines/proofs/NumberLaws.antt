@@ -60,6 +60,6 @@ numbers-most (suc k) i list s =
     go false true n h = omega arith
     go false false n h = omega arith
 
-pub numbers-fit : (s : List ℕ) → numbersIn s .count ≤ 32
+pub numbers-fit : (s : List ℕ) → numbersIn s .count ≤ 48
 unfolding numbersIn
-numbers-fit s = numbers-most 32 0 _ s
+numbers-fit s = numbers-most 48 0 _ s

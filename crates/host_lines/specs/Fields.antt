@@ -50,9 +50,9 @@ pub record Holds (room : ℕ) (s : List ℕ) (r : Field) (o : List ℕ) : Type 0
   pub within : r .used ≤ length s
   pub fits : r .count ≤ room
 
--- fewer than 32 numbers, each after one space, and then the end
+-- fewer than 48 numbers, each after one space, and then the end
 abbrev pub noNumbers : Numbers
-noNumbers = record { good = false; count = 0; list = replicate 32 0 }
+noNumbers = record { good = false; count = 0; list = replicate 48 0 }
 
 -- k numbers more, from the i-th of the list on
 unfoldable pub numbersFrom : ℕ → ℕ → List ℕ → List ℕ → Numbers
@@ -62,7 +62,7 @@ numbersFrom (suc k) i list s =
     (pick (stepOf s .good) (numbersFrom k (i + 1) (set list i (stepOf s .value)) (drop (stepOf s .used) s)) noNumbers)
 
 unfoldable pub numbersIn : List ℕ → Numbers
-numbersIn s = numbersFrom 32 0 (replicate 32 0) s
+numbersIn s = numbersFrom 48 0 (replicate 48 0) s
 
 -- what a line gives a call: its link, octets, output and numbers; or it is not readable
 pub data Ask : Type 0 where
@@ -91,4 +91,4 @@ pub record Asks (s : List ℕ) (r : Asked) (link octets out : List ℕ) : Type 0
   pub link-fits : r .link ≤ 256
   pub octets-fits : r .octets ≤ 256
   pub out-fits : r .out ≤ 256
-  pub numbers-fit : r .numbers .count ≤ 32
+  pub numbers-fit : r .numbers .count ≤ 48

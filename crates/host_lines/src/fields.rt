@@ -8,7 +8,7 @@ ghost use lib.ListN.{length};
 ghost use Rattle.host_lines.specs.Fields.{heldBy, Holds, numbersIn, noNumbers, unasked, Asks};
 
 // More than any PDU has, so that what follows the last one is seen to count for nothing.
-pub(crate) const NUMBERS: usize = 32;
+pub(crate) const NUMBERS: usize = 48;
 
 // A field takes `used` octets of the line, and its own `count` octets stand at the front of a buffer.
 pub(crate) struct Field {

@@ -5,7 +5,7 @@ use mathlib.Core.Bool.{Bool, true, false}
 use mathlib.Core.List.{List, [], _∷_, _++_}
 use native.Mathlib.Omega.{arith}
 use lib.Dec.{ltb}
-use lib.ListN.{length, set, take, drop, length-set}
+use lib.ListN.{length, set, take, drop, replicate, length-set}
 use lib.Seq.{sets, sets-eq, set-out, take-nil, take-all, length-take-le}
 use borrow.Author.Tests.{ltb-true, ltb-false}
 
@@ -28,3 +28,10 @@ copied s o n e =
     go : (b : Bool) → ltb (length s) (length o) ≡ b → sets o 0 (take n s) ≡ sets o 0 s
     go true f = ap (sets o 0) (take-all n s (omega (arith, e, ltb-true (length s) (length o) f)))
     go false f = sets-cut s o 0 n (omega (arith, e, ltb-false (length s) (length o) f))
+
+-- 25 numbers at the front of 40 zeros
+pub wide : (s : List ℕ) → length s ≡ 25 → sets (replicate 40 0) 0 s ≡ s ++ replicate 15 0
+wide s e =
+    let h : 0 + length s ≤ 40 = omega (arith, e) in
+    let k : 0 + length s ≡ 25 = omega (arith, e) in
+    sets-eq s (replicate 40 0) 0 h ∙ ap (λ (n : ℕ). s ++ drop n (replicate 40 0)) k

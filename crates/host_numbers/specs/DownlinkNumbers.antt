@@ -1,11 +1,11 @@
--- An aircraft PDU as 25 numbers, its list's octets beside them: 0 its kind, the index of 01's table; 1 whether a positive ack goes with a report, the request
+-- An aircraft PDU as 40 numbers, its list's octets beside them: 0 its kind, the index of 01's table; 1 whether a positive ack goes with a report, the request
 -- type, the index of a noncompliance or the reason of an abort; 2 the event type or the reason of a negative ack; 3 how many entries the list has;
--- 4 to 24 a report, as `ReportNumbers` has it. What a kind has not is 0.
+-- 4 to 39 a report, as `ReportNumbers` has it. What a kind has not is 0.
 use mathlib.Core.Bool.{cond}
-use mathlib.Core.List.{List, [], _∷_}
+use mathlib.Core.List.{List, [], _∷_, _++_}
 use Prim.Native.Nat.{ℕ}
 use lib.Dec.{eqb}
-use lib.ListN.{getD}
+use lib.ListN.{getD, replicate}
 use Rattle.pdu_parts.specs.Lists.{noList}
 use Rattle.pdu_parts.specs.declared.lists.Listed.{Listed}
 use Rattle.pdu_parts.specs.declared.acks.NegativeAck.{NegativeAck}
@@ -16,24 +16,25 @@ use Rattle.pdu.specs.declared.downlink.Air.{Air}
 use Rattle.pdu.specs.declared.downlink.Air.the-variants.{CancelEmergency, Demand, Emergency, Event, Negative, Noncompliance, Periodic, Positive, Abort}
 use Rattle.pdu.specs.declared.downlink.AirPdu.{AirPdu}
 use Rattle.host_numbers.specs.Numbers.{truth, numberBy, itemsOf}
-use Rattle.host_numbers.specs.ReportNumbers.{flatFix, fixAt, reportAt}
+use Rattle.host_numbers.specs.ReportNumbers.{fixNumbers, flatReport, fixAt, reportAt}
+use Rattle.host_numbers.specs.VectorNumbers.{flatGroundVector, groundVectorAt}
 use Rattle.host_numbers.specs.Places.{A-KIND, A-WHAT, A-DETAIL, A-COUNT, A-ELEMENTS, A-ADDRESS}
 
 -- a PDU without a report: its kind, the numbers at 1 and 2, and how many entries its list has
 abbrev pub few : ℕ → ℕ → ℕ → ℕ → List ℕ
-few kind a b count = kind ∷ a ∷ b ∷ count ∷ 0 ∷ 0 ∷ 0 ∷ 0 ∷ 0 ∷ 0 ∷ 0 ∷ 0 ∷ 0 ∷ 0 ∷ 0 ∷ 0 ∷ 0 ∷ 0 ∷ 0 ∷ 0 ∷ 0 ∷ 0 ∷ 0 ∷ 0 ∷ 0 ∷ []
+few kind a b count = kind ∷ a ∷ b ∷ count ∷ replicate 36 0
 
 -- demand and periodic reports: "a presence bit for the positive ack (NULL), then the report"
 abbrev pub flatAcked : ℕ → AckedReport → List ℕ
-flatAcked kind a = flatFix kind (a .ack) 0 (a .report .elements) (a .report .fix) (a .report .address)
+flatAcked kind a = flatReport kind (a .ack) 0 (a .report)
 
--- emergencies, the same
+-- emergencies, which have the ground vector alone
 abbrev pub flatUrgent : AckedEmergency → List ℕ
-flatUrgent a = flatFix 2 (a .ack) 0 (a .report .elements) (a .report .fix) (a .report .address)
+flatUrgent a = fixNumbers 2 (a .ack) 0 (a .report .elements) (a .report .fix) (a .report .address) ++ (flatGroundVector (a .report .ground) ++ replicate 11 0)
 
 -- "Index 3: that presence bit, event type* 0..11, report"
 abbrev pub flatEvent : EventReport → List ℕ
-flatEvent a = flatFix 3 (a .ack) (a .event) (a .report .elements) (a .report .fix) (a .report .address)
+flatEvent a = flatReport 3 (a .ack) (a .event) (a .report)
 
 -- by the kinds of 01's table; `count` is that of the list
 unfoldable pub flatAir : Air → ℕ → List ℕ
@@ -54,7 +55,10 @@ ackedAt f = record { ack = truth (getD f A-WHAT 0); report = reportAt f }
 -- the same of an emergency
 unfoldable pub urgentAt : List ℕ → AckedEmergency
 urgentAt f =
-    record { ack = truth (getD f A-WHAT 0); report = record { elements = numberBy f A-WHAT A-ELEMENTS; fix = fixAt f; address = getD f A-ADDRESS 0 } }
+    record {
+      ack = truth (getD f A-WHAT 0);
+      report = record { elements = numberBy f A-WHAT A-ELEMENTS; fix = fixAt f; address = getD f A-ADDRESS 0; ground = groundVectorAt f };
+    }
 
 -- and of an event report, with the event type
 unfoldable pub eventAt : List ℕ → EventReport

@@ -2,5 +2,6 @@ pub mod Places
 pub mod Numbers
 pub mod UplinkNumbers
 pub mod laws
+pub mod VectorNumbers
 pub mod ReportNumbers
 pub mod DownlinkNumbers

@@ -76,6 +76,55 @@ A-AVOIDANCE = 23
 abbrev pub A-ADDRESS : ℕ
 A-ADDRESS = 24
 
+abbrev pub A-GROUND-PARTS : ℕ
+A-GROUND-PARTS = 25
+
+abbrev pub A-TRACK : ℕ
+A-TRACK = 26
+
+abbrev pub A-GROUND-SPEED : ℕ
+A-GROUND-SPEED = 27
+
+abbrev pub A-GROUND-RATE : ℕ
+A-GROUND-RATE = 28
+
+abbrev pub A-AIR-PARTS : ℕ
+A-AIR-PARTS = 29
+
+abbrev pub A-HEADING : ℕ
+A-HEADING = 30
+
+abbrev pub A-AIR-SPEED : ℕ
+A-AIR-SPEED = 31
+
+abbrev pub A-MACH : ℕ
+A-MACH = 32
+
+abbrev pub A-IAS : ℕ
+A-IAS = 33
+
+abbrev pub A-AIR-RATE : ℕ
+A-AIR-RATE = 34
+
+abbrev pub A-WEATHER-PARTS : ℕ
+A-WEATHER-PARTS = 35
+
+abbrev pub A-WIND-SPEED : ℕ
+A-WIND-SPEED = 36
+
+abbrev pub A-WIND-DIRECTION : ℕ
+A-WIND-DIRECTION = 37
+
+abbrev pub A-TEMPERATURE : ℕ
+A-TEMPERATURE = 38
+
+abbrev pub A-TURBULENCE : ℕ
+A-TURBULENCE = 39
+
+-- how many numbers an aircraft PDU has
+abbrev pub A-NUMBERS : ℕ
+A-NUMBERS = 40
+
 abbrev pub G-KIND : ℕ
 G-KIND = 0
 

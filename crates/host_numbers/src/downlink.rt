@@ -1,4 +1,4 @@
-// Aircraft PDUs as 25 numbers, with the list's octets beside them. Missing numbers count as 0; numbers that name nothing make a value that no writer takes.
+// Aircraft PDUs as 40 numbers, with the list's octets beside them. Missing numbers count as 0; numbers that name nothing make a value that no writer takes.
 use crate::copy::items_of;
 use crate::numbers::number;
 use crate::numbers::number_by;
@@ -8,6 +8,8 @@ use crate::reports::fix_at;
 use crate::reports::flat_fix;
 use crate::reports::flat_report;
 use crate::reports::report_at;
+use crate::vectors::ground_vector_at;
+use crate::vectors::with_ground;
 use pdu::downlink::Air;
 use pdu::downlink::AirPdu;
 use pdu_parts::acked::AckedEmergency;
@@ -21,61 +23,41 @@ ghost use mathlib.Core.Path.{_≡_};
 ghost use Rattle.host_numbers.specs.DownlinkNumbers.{few, flatAcked, flatUrgent, flatEvent, flatAir, ackedAt, urgentAt, eventAt, negativeAt, kindAt, listedAt, listAt, airAt};
 
 // A kind without a report.
-fn few_of(kind: u32, a: u32, b: u32, count: u32) -> [u32; 25]
+fn few_of(kind: u32, a: u32, b: u32, count: u32) -> [u32; A_NUMBERS]
     ensures { λ r. ⌜ r ≡ few kind a b count ⌝ }
 {
-    [
-        kind,
-        a,
-        b,
-        count,
-        0,
-        0,
-        0,
-        0,
-        0,
-        0,
-        0,
-        0,
-        0,
-        0,
-        0,
-        0,
-        0,
-        0,
-        0,
-        0,
-        0,
-        0,
-        0,
-        0,
-        0,
-    ]
+    let mut f = [0u32; A_NUMBERS];
+    f[A_KIND] = kind;
+    f[A_WHAT] = a;
+    f[A_DETAIL] = b;
+    f[A_COUNT] = count;
+    f
 }
 
-fn flat_acked(kind: u32, a: AckedReport) -> [u32; 25]
+fn flat_acked(kind: u32, a: AckedReport) -> [u32; A_NUMBERS]
     ensures { λ r. ⌜ r ≡ flatAcked kind a ⌝ }
 {
     let r = a.report;
     flat_report(kind, a.ack, 0, r)
 }
 
-fn flat_urgent(a: AckedEmergency) -> [u32; 25]
+fn flat_urgent(a: AckedEmergency) -> [u32; A_NUMBERS]
     ensures { λ r. ⌜ r ≡ flatUrgent a ⌝ }
 {
     let it = a.report;
     let x = it.fix;
-    flat_fix(2, a.ack, 0, it.elements, x, it.address)
+    let ground = it.ground;
+    with_ground(flat_fix(2, a.ack, 0, it.elements, x, it.address), ground)
 }
 
-fn flat_event(a: EventReport) -> [u32; 25]
+fn flat_event(a: EventReport) -> [u32; A_NUMBERS]
     ensures { λ r. ⌜ r ≡ flatEvent a ⌝ }
 {
     let r = a.report;
     flat_report(3, a.ack, a.event, r)
 }
 
-pub fn flat_air(kind: Air, count: u32) -> [u32; 25]
+pub fn flat_air(kind: Air, count: u32) -> [u32; A_NUMBERS]
     ensures { λ r. ⌜ r ≡ flatAir kind count ⌝ }
 {
     match kind {
@@ -104,10 +86,12 @@ fn urgent_at(f: &[u32]) -> AckedEmergency
 {
     let ack = truth_at(f, A_WHAT);
     let fix = fix_at(f);
+    let ground = ground_vector_at(f);
     let report = EmergencyReport {
         elements: number_by(f, A_WHAT, A_ELEMENTS),
         fix,
         address: number(f, A_ADDRESS),
+        ground,
     };
     AckedEmergency { ack, report }
 }

@@ -5,3 +5,4 @@ pub mod numbers;
 pub mod places;
 pub mod reports;
 pub mod uplink;
+mod vectors;

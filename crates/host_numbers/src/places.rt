@@ -49,6 +49,39 @@ pub const A_AVOIDANCE: usize = 23;
 
 pub const A_ADDRESS: usize = 24;
 
+pub const A_GROUND_PARTS: usize = 25;
+
+pub const A_TRACK: usize = 26;
+
+pub const A_GROUND_SPEED: usize = 27;
+
+pub const A_GROUND_RATE: usize = 28;
+
+pub const A_AIR_PARTS: usize = 29;
+
+pub const A_HEADING: usize = 30;
+
+pub const A_AIR_SPEED: usize = 31;
+
+pub const A_MACH: usize = 32;
+
+pub const A_IAS: usize = 33;
+
+pub const A_AIR_RATE: usize = 34;
+
+pub const A_WEATHER_PARTS: usize = 35;
+
+pub const A_WIND_SPEED: usize = 36;
+
+pub const A_WIND_DIRECTION: usize = 37;
+
+pub const A_TEMPERATURE: usize = 38;
+
+pub const A_TURBULENCE: usize = 39;
+
+// How many numbers an aircraft PDU has.
+pub const A_NUMBERS: usize = 40;
+
 pub const G_KIND: usize = 0;
 
 pub const G_WHAT: usize = 1;

@@ -1,4 +1,5 @@
-// A report as 25 numbers, with the numbers that stand before it. Missing numbers count as 0; numbers that name nothing make a value that no writer takes.
+// A report as 40 numbers, with the numbers that stand before it. Missing numbers count as 0; numbers that name nothing make a value that no writer takes.
+use crate::copy::copy_numbers;
 use crate::numbers::bit;
 use crate::numbers::complement;
 use crate::numbers::number;
@@ -6,6 +7,7 @@ use crate::numbers::number_by;
 use crate::numbers::signed_at;
 use crate::numbers::truth_at;
 use crate::places::*;
+use crate::vectors::*;
 use pdu_parts::position::Angle;
 use pdu_parts::position::Position;
 use pdu_parts::report::Fix;
@@ -13,10 +15,12 @@ use pdu_parts::report::Report;
 use pdu_parts::time::Merit;
 use pdu_parts::time::Time;
 ghost use mathlib.Core.Path.{_≡_};
-ghost use Rattle.host_numbers.specs.ReportNumbers.{flatFix, accuracyAt, fixAt, reportAt};
+ghost use mathlib.Core.List.{_++_};
+ghost use lib.ListN.{replicate};
+ghost use Rattle.host_numbers.specs.ReportNumbers.{fixNumbers, flatReport, accuracyAt, fixAt, reportAt};
 
-pub fn flat_fix(kind: u32, ack: bool, event: u32, elements: u32, x: Fix, address: u32) -> [u32; 25]
-    ensures { λ r. ⌜ r ≡ flatFix kind ack event elements x address ⌝ }
+fn fix_numbers(kind: u32, ack: bool, event: u32, elements: u32, x: Fix, address: u32) -> [u32; 25]
+    ensures { λ r. ⌜ r ≡ fixNumbers kind ack event elements x address ⌝ }
 {
     let p = x.position;
     let la = p.latitude;
@@ -53,11 +57,37 @@ pub fn flat_fix(kind: u32, ack: bool, event: u32, elements: u32, x: Fix, address
     ]
 }
 
-pub fn flat_report(kind: u32, ack: bool, event: u32, it: Report) -> [u32; 25]
-    ensures { λ r. ⌜ r ≡ flatFix kind ack event (it .elements) (it .fix) (it .address) ⌝ }
+// Zeros behind them.
+fn widened(a: [u32; 25]) -> [u32; A_NUMBERS]
+    ensures { λ r. ⌜ r ≡ a ++ replicate 15 0 ⌝ }
+{
+    let mut f = [0u32; A_NUMBERS];
+    copy_numbers(&a, &mut f);
+    f
+}
+
+pub(crate) fn flat_fix(
+    kind: u32,
+    ack: bool,
+    event: u32,
+    elements: u32,
+    x: Fix,
+    address: u32,
+) -> [u32; A_NUMBERS]
+    ensures { λ r. ⌜ r ≡ fixNumbers kind ack event elements x address ++ replicate 15 0 ⌝ }
+{
+    widened(fix_numbers(kind, ack, event, elements, x, address))
+}
+
+pub(crate) fn flat_report(kind: u32, ack: bool, event: u32, it: Report) -> [u32; A_NUMBERS]
+    ensures { λ r. ⌜ r ≡ flatReport kind ack event it ⌝ }
 {
     let x = it.fix;
-    flat_fix(kind, ack, event, it.elements, x, it.address)
+    let ground = it.ground;
+    let air = it.air;
+    let weather = it.weather;
+    let f = flat_fix(kind, ack, event, it.elements, x, it.address);
+    with_weather(with_air(with_ground(f, ground), air), weather)
 }
 
 fn position_at(f: &[u32]) -> Position
@@ -97,7 +127,7 @@ fn accuracy_at(f: &[u32]) -> u32
     }
 }
 
-pub fn fix_at(f: &[u32]) -> Fix
+pub(crate) fn fix_at(f: &[u32]) -> Fix
     ensures { λ r. ⌜ r ≡ fixAt (now (f .entry)) ⌝ }
 {
     let position = position_at(f);
@@ -122,13 +152,19 @@ pub fn fix_at(f: &[u32]) -> Fix
     }
 }
 
-pub fn report_at(f: &[u32]) -> Report
+pub(crate) fn report_at(f: &[u32]) -> Report
     ensures { λ r. ⌜ r ≡ reportAt (now (f .entry)) ⌝ }
 {
     let fix = fix_at(f);
+    let ground = ground_vector_at(f);
+    let air = air_vector_at(f);
+    let weather = weather_at(f);
     Report {
         elements: number_by(f, A_WHAT, A_ELEMENTS),
         fix,
         address: number(f, A_ADDRESS),
+        ground,
+        air,
+        weather,
     }
 }

@@ -54,15 +54,15 @@ unfolding airC
 air-own = search (forms, air-each)
 
 -- ---- at most 916 bits, those of a negative ack with 16 names
-acked-most : Most 136 ackedC
+acked-most : Most 265 ackedC
 unfolding ackedC
 acked-most = up (lit≤ tt) (a-like _ _ _ _ (a-pair _ (a-field flagField) (λ a. report-most)))
 
-acked-emergency-most : Most 130 ackedEmergencyC
+acked-emergency-most : Most 170 ackedEmergencyC
 unfolding ackedEmergencyC
 acked-emergency-most = up (lit≤ tt) (a-like _ _ _ _ (a-pair _ (a-field flagField) (λ a. emergency-most)))
 
-event-most : Most 141 eventReportC
+event-most : Most 270 eventReportC
 unfolding eventReportC width widthIn
 event-most = up (lit≤ tt) (a-like _ _ _ _ (a-pair _ (a-field flagField) (λ a. a-pair _ (a-mark {n = 5} (lit≤ tt) (a-field (numField 0 11))) (λ b. report-most))))
 

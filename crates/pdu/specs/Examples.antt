@@ -8,6 +8,7 @@ use Rattle.per.specs.Pdu.{Answer, got, refused, readPdu}
 use Rattle.per.specs.Writing.{Delivered, writePdu}
 use Rattle.per.specs.declared.pen.Written.{Written}
 use Rattle.per.specs.declared.pen.Written.the-variants.{Octets, Refused}
+use Rattle.pdu_parts.specs.Vectors.{noGroundVector, noAirVector, noWeather}
 use Rattle.pdu_parts.specs.declared.position.Angle.{Angle}
 use Rattle.pdu_parts.specs.declared.report.Report.{Report}
 use Rattle.pdu_parts.specs.declared.interval.Interval.the-variants.{Minutes}
@@ -39,6 +40,9 @@ plainReport = record {
     merit = record { accuracy = 0; units = false; avoidance = false };
   };
   address = 0;
+  ground = noGroundVector;
+  air = noAirVector;
+  weather = noWeather;
 }
 
 abbrev pub oneMinute : Periodic

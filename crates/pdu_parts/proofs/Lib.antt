@@ -3,7 +3,7 @@ pub mod ListBounds
 pub mod ListNorms
 pub mod ReportBounds
 pub mod ReportNorms
-pub mod ReportLevels
+pub mod ReportSigns
 pub mod Counting
 pub mod Intervals
 pub mod Entries

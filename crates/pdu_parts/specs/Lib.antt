@@ -1,6 +1,7 @@
 pub mod Elements
 pub mod Lists
 pub mod ListsInner
+pub mod Vectors
 pub mod Reports
 pub mod Interval
 pub mod Periodic

@@ -11,7 +11,8 @@ use Rattle.pdu_parts.specs.declared.time.Merit.{Merit}
 use Rattle.pdu_parts.specs.declared.report.Fix.{Fix}
 use Rattle.pdu_parts.specs.declared.report.Report.{Report}
 use Rattle.pdu_parts.specs.declared.report.EmergencyReport.{EmergencyReport}
-use Rattle.pdu_parts.specs.Elements.{ADDRESS, REPORT-BITS, REPORT-CARRIED, EMERGENCY-ADDRESS, EMERGENCY-BITS, EMERGENCY-CARRIED}
+use Rattle.pdu_parts.specs.Elements.{ADDRESS, GROUND-VECTOR, AIR-VECTOR, WEATHER, REPORT-BITS, REPORT-CARRIED, EMERGENCY-ADDRESS, EMERGENCY-GROUND-VECTOR, EMERGENCY-BITS, EMERGENCY-CARRIED}
+use Rattle.pdu_parts.specs.Vectors.{groundVectorC, noGroundVector, airVectorC, noAirVector, weatherC, noWeather}
 
 -- "latitude (sign 1 bit, degrees 0..90, minutes 0..59, tenth-seconds 0..599), longitude (degrees 0..180, rest alike)"
 unfoldable pub angleC : ℕ → Codec Angle
@@ -67,18 +68,20 @@ abbrev pub address : ℕ → ℕ → Codec ℕ
 address w v = when (has w v) 0 (num 0 16777215)
 
 -- "Report*: 7 presence bits (aircraft address, projected profile, ground vector, air vector, weather, short-term intent, extended profile),
--- position, time, figure of merit, then the address, 24 bits. The other six elements aren't carried"
+-- position, time, figure of merit, then the address, 24 bits". 02, L1: "Carry ground vector, air vector and weather in reports". The other three aren't carried
 unfoldable pub reportC : Codec Report
 reportC =
-    iso (ext (dep (mask REPORT-BITS REPORT-CARRIED false) (λ v. pair fixC (address ADDRESS v))))
-    (λ p. record { elements = p .0; fix = p .1 .0; address = p .1 .1 })
-    (λ a. (a .elements, (a .fix, a .address)))
+    iso (ext (dep (mask REPORT-BITS REPORT-CARRIED false) (λ v. pair fixC (pair (address ADDRESS v)
+    (pair (when (has GROUND-VECTOR v) noGroundVector groundVectorC) (pair (when (has AIR-VECTOR v) noAirVector airVectorC) (when (has WEATHER v) noWeather weatherC)))))))
+    (λ p. record { elements = p .0; fix = p .1 .0; address = p .1 .1 .0; ground = p .1 .1 .1 .0; air = p .1 .1 .1 .1 .0; weather = p .1 .1 .1 .1 .1 })
+    (λ a. (a .elements, (a .fix, (a .address, (a .ground, (a .air, a .weather))))))
     (λ p. refl)
 
--- "Emergency report: no extension bit, 2 presence bits (address, ground vector), the same three, address"
+-- "Emergency report: no extension bit, 2 presence bits (address, ground vector), the same three, address". 02, L1: "ground vector also in emergency reports"
 unfoldable pub emergencyReportC : Codec EmergencyReport
 emergencyReportC =
-    iso (dep (mask EMERGENCY-BITS EMERGENCY-CARRIED false) (λ v. pair fixC (address EMERGENCY-ADDRESS v)))
-    (λ p. record { elements = p .0; fix = p .1 .0; address = p .1 .1 })
-    (λ a. (a .elements, (a .fix, a .address)))
+    iso (dep (mask EMERGENCY-BITS EMERGENCY-CARRIED false)
+    (λ v. pair fixC (pair (address EMERGENCY-ADDRESS v) (when (has EMERGENCY-GROUND-VECTOR v) noGroundVector groundVectorC))))
+    (λ p. record { elements = p .0; fix = p .1 .0; address = p .1 .1 .0; ground = p .1 .1 .1 })
+    (λ a. (a .elements, (a .fix, (a .address, a .ground))))
     (λ p. refl)

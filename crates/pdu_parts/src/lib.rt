@@ -8,3 +8,4 @@ pub mod periodic;
 pub mod position;
 pub mod report;
 pub mod time;
+pub mod vectors;

@@ -1,4 +1,4 @@
-// The report and the emergency report: which elements are present, the three that always are, and the aircraft address.
+// The report and the emergency report: which elements are present, the three that always are, and those of the others that are carried.
 use crate::elements::*;
 use crate::position::Position;
 use crate::position::read_position;
@@ -9,6 +9,7 @@ use crate::time::read_merit;
 use crate::time::read_time;
 use crate::time::write_merit;
 use crate::time::write_time;
+use crate::vectors::*;
 use per::cursor::Cursor;
 use per::cursor::present;
 use per::pen::Pen;
@@ -28,12 +29,16 @@ pub struct Report {
     pub elements: u32,
     pub fix: Fix,
     pub address: u32,
+    pub ground: GroundVector,
+    pub air: AirVector,
+    pub weather: Weather,
 }
 
 pub struct EmergencyReport {
     pub elements: u32,
     pub fix: Fix,
     pub address: u32,
+    pub ground: GroundVector,
 }
 
 pub struct FixRead {
@@ -83,60 +88,76 @@ fn write_fix(p: Pen, out: &mut [u8; 128], a: Fix) -> Pen
 pub fn read_report(c: Cursor, s: &[u8]) -> ReportRead
     ensures { λ r. ⌜ Reads reportC (now (s .entry)) c (r .value) (r .next) ⌝ }
 {
-    let elements = c.extension(s).mask(s, REPORT_BITS, REPORT_CARRIED, false);
-    let three = read_fix(elements.next, s);
-    let address = three
-        .next
-        .num_if(s, present(elements.value, ADDRESS), 0, 16777215);
+    let bits = c.extension(s).mask(s, REPORT_BITS, REPORT_CARRIED, false);
+    let v = bits.value;
+    let three = read_fix(bits.next, s);
+    let address = three.next.num_if(s, present(v, ADDRESS), 0, 16777215);
+    let gro = read_ground_vector_if(address.next, s, present(v, GROUND_VECTOR));
+    let wind = read_air_vector_if(gro.next, s, present(v, AIR_VECTOR));
+    let sky = read_weather_if(wind.next, s, present(v, WEATHER));
     let fix = three.value;
+    let ground = gro.value;
+    let air = wind.value;
+    let weather = sky.value;
     let value = Report {
-        elements: elements.value,
+        elements: v,
         fix,
         address: address.value,
+        ground,
+        air,
+        weather,
     };
-    let next = address.next;
+    let next = sky.next;
     ReportRead { value, next }
 }
 
 pub fn write_report(p: Pen, out: &mut [u8; 128], a: Report) -> Pen
     ensures { λ r. ⌜ Writes reportC (now (out .entry)) p a r (now (out .exit)) ⌝ }
 {
+    let v = a.elements;
     let fix = a.fix;
+    let ground = a.ground;
+    let air = a.air;
+    let weather = a.weather;
     let p = p.extension(out);
-    let p = p.mask(out, a.elements, REPORT_BITS, REPORT_CARRIED, false);
+    let p = p.mask(out, v, REPORT_BITS, REPORT_CARRIED, false);
     let p = write_fix(p, out, fix);
-    p.num_if(out, present(a.elements, ADDRESS), a.address, 0, 16777215)
+    let p = p.num_if(out, present(v, ADDRESS), a.address, 0, 16777215);
+    let p = write_ground_vector_if(p, out, present(v, GROUND_VECTOR), ground);
+    let p = write_air_vector_if(p, out, present(v, AIR_VECTOR), air);
+    write_weather_if(p, out, present(v, WEATHER), weather)
 }
 
 pub fn read_emergency_report(c: Cursor, s: &[u8]) -> EmergencyReportRead
     ensures { λ r. ⌜ Reads emergencyReportC (now (s .entry)) c (r .value) (r .next) ⌝ }
 {
-    let elements = c.mask(s, EMERGENCY_BITS, EMERGENCY_CARRIED, false);
-    let three = read_fix(elements.next, s);
+    let bits = c.mask(s, EMERGENCY_BITS, EMERGENCY_CARRIED, false);
+    let v = bits.value;
+    let three = read_fix(bits.next, s);
     let address = three
         .next
-        .num_if(s, present(elements.value, EMERGENCY_ADDRESS), 0, 16777215);
+        .num_if(s, present(v, EMERGENCY_ADDRESS), 0, 16777215);
+    let gro = read_ground_vector_if(address.next, s, present(v, EMERGENCY_GROUND_VECTOR));
     let fix = three.value;
+    let ground = gro.value;
     let value = EmergencyReport {
-        elements: elements.value,
+        elements: v,
         fix,
         address: address.value,
+        ground,
     };
-    let next = address.next;
+    let next = gro.next;
     EmergencyReportRead { value, next }
 }
 
 pub fn write_emergency_report(p: Pen, out: &mut [u8; 128], a: EmergencyReport) -> Pen
     ensures { λ r. ⌜ Writes emergencyReportC (now (out .entry)) p a r (now (out .exit)) ⌝ }
 {
+    let v = a.elements;
     let fix = a.fix;
-    let p = p.mask(out, a.elements, EMERGENCY_BITS, EMERGENCY_CARRIED, false);
+    let ground = a.ground;
+    let p = p.mask(out, v, EMERGENCY_BITS, EMERGENCY_CARRIED, false);
     let p = write_fix(p, out, fix);
-    p.num_if(
-        out,
-        present(a.elements, EMERGENCY_ADDRESS),
-        a.address,
-        0,
-        16777215,
-    )
+    let p = p.num_if(out, present(v, EMERGENCY_ADDRESS), a.address, 0, 16777215);
+    write_ground_vector_if(p, out, present(v, EMERGENCY_GROUND_VECTOR), ground)
 }

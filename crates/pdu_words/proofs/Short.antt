@@ -2,13 +2,13 @@
 use mathlib.Core.Path.{_≡_, refl}
 use mathlib.Core.Bool.{Bool, true, false}
 use mathlib.Core.List.{List, [], _∷_, _++_}
-use Prim.Native.Nat.{ℕ, zero, suc, _+_, _-_, _*_, _%_, _≤_}
+use Prim.Native.Nat.{ℕ, zero, suc, _+_, _-_, _*_, _/_, _%_, _≤_}
 use native.Mathlib.Nat.{le-trans, min-le-left, min-le-right, mul-le-mul-right, suc-mul}
 use native.Mathlib.Omega.{arith}
 use lib.Dec.{eqb, ltb, leb, leb→le, lit≤}
 use lib.ListN.{length, getD, take, drop, replicate, length-append, length-take}
 use Rattle.text.specs.Letters.{ascii}
-use Rattle.text.specs.Text.{hexGood, octetsOf, hexText, wordEnd, decimal}
+use Rattle.text.specs.Text.{pick, hexGood, octetsOf, hexText, wordEnd, decimal}
 use Rattle.text.specs.Words.{wordAt, refusedText}
 use Rattle.text.specs.Page.{page, Writes}
 use Rattle.text.proofs.Laws.{decimal-length}
@@ -28,7 +28,7 @@ use Rattle.pdu.specs.declared.GroundAnswer as ground
 use Rattle.host_numbers.specs.DownlinkNumbers.{flatAir}
 use Rattle.host_numbers.specs.UplinkNumbers.{flatGround}
 use Rattle.pdu_words.specs.Names.{refusalWords}
-use Rattle.pdu_words.specs.Ways.{Way, nothing, number, two, three, seconds, tens, octets, nth, word, list, names, twoDigits, threeDigits, secondsText, tensText, octetsText, ending, nthText, plain, letter, mark, nameItem, entryItem, itemsText, wayText}
+use Rattle.pdu_words.specs.Ways.{Way, nothing, number, two, three, seconds, tens, octets, nth, word, list, names, tenths, signed, thousandths, quarters, twoDigits, threeDigits, tenthText, secondsText, tenthsText, thousandthsText, signText, sizeOf, signedText, tensText, fractions, quartersText, octetsText, ending, nthText, plain, letter, mark, nameItem, entryItem, itemsText, wayText}
 use Rattle.pdu_words.specs.Rows.{Row, chosen, rowText, rowsText}
 use Rattle.pdu_words.specs.AirRows.{airRows, airWords}
 use Rattle.pdu_words.specs.GroundRows.{groundRows, groundWords}
@@ -88,16 +88,47 @@ wayMost nth = 42
 wayMost (word ws) = letters ws
 wayMost (list ws) = 128 * (2 + letters ws)
 wayMost names = 768
+wayMost tenths = 22
+wayMost signed = 21
+wayMost thousandths = 24
+wayMost quarters = 29
 
 list-length : (item : ℕ → ℕ → List ℕ) (m k : ℕ) (items : List ℕ) → ((i c : ℕ) → length (item i c) ≤ m) → length items ≤ 128
     → length (itemsText item 0 (take k items)) ≤ 128 * m
 list-length item m k items most h = le-trans (items-length item m most 0 (take k items)) (mul-le-mul-right m (few k items h))
 
+tenths-length : (n : ℕ) → length (tenthsText n) ≤ 22
+unfolding tenthsText tenthText
+tenths-length n = omega (arith, length-append (decimal (n / 10)) (tenthText n), decimal-length (n / 10))
+
+thousandths-length : (n : ℕ) → length (thousandthsText n) ≤ 24
+unfolding thousandthsText twoDigits
+thousandths-length n =
+    let third = pick (eqb (n % 10) 0) [] ((48 + n % 10) ∷ []) in
+    let t : length third ≤ 1 = of-two (eqb (n % 10) 0) 1 _ _ (lit≤ tt) (lit≤ tt) in
+    omega (arith, length-append (decimal (n / 1000)) (ascii "." ++ (twoDigits (n / 10) ++ third)), decimal-length (n / 1000), t)
+
+-- a sign and a text of at most m letters
+sign-length : (n m : ℕ) (t : List ℕ) → length t ≤ m → length (signText n ++ t) ≤ 1 + m
+unfolding signText
+sign-length n m t h =
+    let s : length (signText n) ≤ 1 = of-two (ltb n 2147483648) 1 _ _ (lit≤ tt) (lit≤ tt) in
+    omega (arith, length-append (signText n) t, s)
+
+signed-length : (n : ℕ) → length (signedText n) ≤ 21
+unfolding signedText
+signed-length n = sign-length n 20 (decimal (sizeOf n)) (decimal-length (sizeOf n))
+
 tens-length : (n : ℕ) → length (tensText n) ≤ 21
 unfolding tensText
-tens-length n =
-    of-two (ltb n 2147483648) 21 _ _ (omega (arith, decimal-length (n * 10)))
-    (omega (arith, length-append (ascii "-") (decimal ((4294967296 - n) * 10)), decimal-length ((4294967296 - n) * 10)))
+tens-length n = sign-length n 20 (decimal (sizeOf n * 10)) (decimal-length (sizeOf n * 10))
+
+quarters-length : (n : ℕ) → length (quartersText n) ≤ 29
+unfolding quartersText letters
+quarters-length n =
+    let q = decimal (sizeOf n / 4) in
+    let w = wordAt fractions (sizeOf n % 4) in
+    sign-length n 28 (q ++ w) (omega (arith, length-append q w, decimal-length (sizeOf n / 4), word-length fractions (sizeOf n % 4)))
 
 nth-length : (n : ℕ) → length (nthText n) ≤ 42
 unfolding nthText letters
@@ -109,7 +140,7 @@ nth-length n =
     of-two (eqb n 1) 42 _ _ (lit≤ tt) (omega (arith, a, b, w, decimal-length n))
 
 way-length : (w : Way) (n : ℕ) (items : List ℕ) → length items ≤ 128 → length (wayText w n items) ≤ wayMost w
-unfolding wayText wayMost twoDigits threeDigits secondsText octetsText
+unfolding wayText wayMost twoDigits threeDigits tenthText secondsText octetsText
 way-length nothing n items h = lit≤ tt
 way-length number n items h = decimal-length n
 way-length two n items h = lit≤ tt
@@ -121,6 +152,10 @@ way-length nth n items h = nth-length n
 way-length (word ws) n items h = word-length ws n
 way-length (list ws) n items h = list-length (entryItem ws) (2 + letters ws) n items (entry-length ws) h
 way-length names n items h = list-length nameItem 6 (n * 8) items name-length h
+way-length tenths n items h = tenths-length n
+way-length signed n items h = signed-length n
+way-length thousandths n items h = thousandths-length n
+way-length quarters n items h = quarters-length n
 
 -- and rows
 rowMost : Row → ℕ

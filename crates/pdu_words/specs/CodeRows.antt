@@ -6,8 +6,8 @@ use lib.Dec.{eqb}
 use Rattle.text.specs.Text.{pick}
 use Rattle.text.specs.Words.{wordAt}
 use Rattle.pdu_words.specs.Names.{listAt, vocabulary}
-use Rattle.pdu_words.specs.Ways.{Way, nothing, number, two, three, seconds, tens, octets, nth, word, list, names, nameItem, entryItem}
-use Rattle.pdu_words.specs.Rows.{Test, any, bit, same, other, Row}
+use Rattle.pdu_words.specs.Ways.{Way, nothing, number, two, three, seconds, tens, octets, nth, word, list, names, tenths, signed, thousandths, quarters, nameItem, entryItem}
+use Rattle.pdu_words.specs.Rows.{Test, any, bit, same, other, masked, Row}
 
 -- ways by their numbers, with a list of words by its number. Entries of list 0 are names
 unfoldable pub entriesOf : ℕ → Way
@@ -20,7 +20,12 @@ wayOf w l =
     (pick (eqb w 3) three
     (pick (eqb w 4) seconds
     (pick (eqb w 5) tens
-    (pick (eqb w 6) octets (pick (eqb w 7) (word (listAt l)) (pick (eqb w 8) nth (pick (eqb w 9) (entriesOf l) nothing))))))))
+    (pick (eqb w 6) octets
+    (pick (eqb w 7) (word (listAt l))
+    (pick (eqb w 8) nth
+    (pick (eqb w 9) (entriesOf l)
+    (pick (eqb w 10) tenths
+    (pick (eqb w 11) signed (pick (eqb w 12) thousandths (pick (eqb w 13) quarters nothing))))))))))))
 
 -- of the octets of a list, by its number too: how one is shown, and how many `count` entries have
 unfoldable pub itemOf : ℕ → ℕ → ℕ → List ℕ
@@ -33,8 +38,9 @@ octetsIn l count = pick (eqb l 0) (count * 8) count
 abbrev pub digits : ℕ → ℕ → ℕ → ℕ
 digits n k many = n / 16 ^ k % 16 ^ many
 
+-- tests: a number above 3 is a mask
 unfoldable pub testOf : ℕ → ℕ → Test
-testOf t m = pick (eqb t 0) any (pick (eqb t 1) (bit (2 ^ m)) (pick (eqb t 2) (same m) (other m)))
+testOf t m = pick (eqb t 0) any (pick (eqb t 1) (bit (2 ^ m)) (pick (eqb t 2) (same m) (pick (eqb t 3) (other m) (masked t m))))
 
 unfoldable pub rowOf : ℕ → Row
 rowOf n =

@@ -68,6 +68,8 @@ labels =
     ∷ ascii " every " ∷ ascii "cancel emergency" ∷ ascii "demand report" ∷ ascii "emergency report" ∷ ascii "event report: " ∷ ascii "negative ack to "
     ∷ ascii ", used by " ∷ ascii "noncompliance with " ∷ ascii " not met" ∷ ascii "periodic report" ∷ ascii "positive ack to " ∷ ascii "provider abort "
     ∷ ascii ", positive ack" ∷ ascii ", level " ∷ ascii " ft" ∷ ascii ", accuracy " ∷ ascii ", multiple units " ∷ ascii ", acas " ∷ ascii ", aircraft "
+    ∷ ascii ", track " ∷ ascii ", ground speed " ∷ ascii " kt" ∷ ascii ", vertical rate " ∷ ascii " ft/min" ∷ ascii ", heading " ∷ ascii ", mach " ∷ ascii ", ias "
+    ∷ ascii ", wind " ∷ ascii " at " ∷ ascii ", wind speed " ∷ ascii ", temperature " ∷ ascii " C" ∷ ascii ", turbulence "
     ∷ []
 
 -- the lists by their numbers in the code's rows: the first has one word, which is empty

@@ -3,6 +3,7 @@
 use mathlib.Core.Bool.{Bool, true, false, not}
 use mathlib.Core.List.{List, [], _∷_, _++_}
 use Prim.Native.Nat.{ℕ, _/_, _%_, _^_}
+use lib.Bits.{bitAnd}
 use Prim.Native.String.{String}
 use lib.Dec.{eqb, ltb}
 use lib.ListN.{getD}
@@ -20,18 +21,20 @@ every = 4095
 unfoldable pub showsKind : ℕ → ℕ → Bool
 showsKind kinds kind = pick (ltb kind 12) (eqb (kinds / 2 ^ kind % 2) 1) false
 
--- what a guard asks of a number: nothing; a presence bit; that it is m; that it is not
+-- what a guard asks of a number: nothing; a presence bit; that it is m; that it is not; that its bits in a mask are m
 pub data Test : Type 0 where
   any : Test
   bit : ℕ → Test
   same : ℕ → Test
   other : ℕ → Test
+  masked : ℕ → ℕ → Test
 
 unfoldable pub passes : Test → ℕ → Bool
 passes any n = true
 passes (bit b) n = eqb (n / b % 2) 1
 passes (same m) n = eqb n m
 passes (other m) n = not (eqb n m)
+passes (masked b m) n = eqb (bitAnd n b) m
 
 pub record Guard : Type 0 where
   pub place : ℕ
@@ -48,6 +51,9 @@ is p m = record { place = p; test = same m }
 
 abbrev pub isnt : ℕ → ℕ → Guard
 isnt p m = record { place = p; test = other m }
+
+abbrev pub bits : ℕ → ℕ → ℕ → Guard
+bits p b m = record { place = p; test = masked b m }
 
 pub record Row : Type 0 where
   pub kinds : ℕ

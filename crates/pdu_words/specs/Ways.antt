@@ -17,7 +17,7 @@ pub data Way : Type 0 where
   three : Way
   -- tenths as seconds, as in 34.5
   seconds : Way
-  -- tens, with a sign: 002 counts levels in tens of feet
+  -- tens, with a sign: 002 counts levels and vertical rates in tens of feet
   tens : Way
   -- three octets in hexadecimal
   octets : Way
@@ -28,6 +28,14 @@ pub data Way : Type 0 where
   -- so many entries of the PDU's list: each a word; or names of eight octets
   list : List (List ℕ) → Way
   names : Way
+  -- tenths, as in 271.5
+  tenths : Way
+  -- with a sign
+  signed : Way
+  -- thousandths, as in 0.82 and 0.825
+  thousandths : Way
+  -- quarters with a sign, as in -56.5
+  quarters : Way
 
 unfoldable pub twoDigits : ℕ → List ℕ
 twoDigits n = (48 + n / 10 % 10) ∷ (48 + n % 10) ∷ []
@@ -35,12 +43,38 @@ twoDigits n = (48 + n / 10 % 10) ∷ (48 + n % 10) ∷ []
 unfoldable pub threeDigits : ℕ → List ℕ
 threeDigits n = (48 + n / 100 % 10) ∷ twoDigits n
 
-unfoldable pub secondsText : ℕ → List ℕ
-secondsText n = twoDigits (n / 10) ++ (ascii "." ++ ((48 + n % 10) ∷ []))
+-- a point and the tenths behind it
+unfoldable pub tenthText : ℕ → List ℕ
+tenthText n = ascii "." ++ ((48 + n % 10) ∷ [])
 
--- a number with a sign stands in two's complement of 32 bits
+unfoldable pub secondsText : ℕ → List ℕ
+secondsText n = twoDigits (n / 10) ++ tenthText n
+
+unfoldable pub tenthsText : ℕ → List ℕ
+tenthsText n = decimal (n / 10) ++ tenthText n
+
+-- two decimals, and a third that is not 0
+unfoldable pub thousandthsText : ℕ → List ℕ
+thousandthsText n = decimal (n / 1000) ++ (ascii "." ++ (twoDigits (n / 10) ++ pick (eqb (n % 10) 0) [] ((48 + n % 10) ∷ [])))
+
+-- a number with a sign stands in two's complement of 32 bits: what stands before it, and its size
+unfoldable pub signText : ℕ → List ℕ
+signText n = pick (ltb n 2147483648) [] (ascii "-")
+
+unfoldable pub sizeOf : ℕ → ℕ
+sizeOf n = pick (ltb n 2147483648) n (4294967296 - n)
+
+unfoldable pub signedText : ℕ → List ℕ
+signedText n = signText n ++ decimal (sizeOf n)
+
 unfoldable pub tensText : ℕ → List ℕ
-tensText n = pick (ltb n 2147483648) (decimal (n * 10)) (ascii "-" ++ decimal ((4294967296 - n) * 10))
+tensText n = signText n ++ decimal (sizeOf n * 10)
+
+abbrev pub fractions : List (List ℕ)
+fractions = [] ∷ ascii ".25" ∷ ascii ".5" ∷ ascii ".75" ∷ []
+
+unfoldable pub quartersText : ℕ → List ℕ
+quartersText n = signText n ++ (decimal (sizeOf n / 4) ++ wordAt fractions (sizeOf n % 4))
 
 unfoldable pub octetsText : ℕ → List ℕ
 octetsText n = hexText ((n / 65536 % 256) ∷ (n / 256 % 256) ∷ (n % 256) ∷ [])
@@ -90,3 +124,7 @@ wayText nth n items = nthText n
 wayText (word words) n items = wordAt words n
 wayText (list words) n items = itemsText (entryItem words) 0 (take n items)
 wayText names n items = itemsText nameItem 0 (take (n * 8) items)
+wayText tenths n items = tenthsText n
+wayText signed n items = signedText n
+wayText thousandths n items = thousandthsText n
+wayText quarters n items = quartersText n

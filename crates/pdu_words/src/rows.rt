@@ -20,8 +20,8 @@ fn shows_kind(kinds: u64, kind: u32) -> bool
     false
 }
 
-// Whether a number passes a guard's test: always, by a bit, where it is m, or where it is not.
-fn does_pass(test: u64, m: u32, n: u32) -> bool
+// Whether a number passes a guard's test: always, by a bit, where it is m, or where it is not. A test above 3 is a mask, and the number's bits in it are m.
+fn does_pass(test: u32, m: u32, n: u32) -> bool
     requires { ⌜ m < 16 ⌝ }
     ensures { λ r. ⌜ r ≡ passes (testOf test m) n ⌝ }
 {
@@ -29,7 +29,8 @@ fn does_pass(test: u64, m: u32, n: u32) -> bool
         0 => true,
         1 => (n >> m) % 2 == 1,
         2 => n == m,
-        _ => n != m,
+        3 => n != m,
+        _ => n & test == m,
     }
 }
 
@@ -39,7 +40,7 @@ fn is_chosen(row: u64, f: &[u32]) -> bool
     if shows_kind(row / 0x1000000000000, number(f, 0)) {
         let n = number(f, (row / 0x1000000000 % 256) as usize);
         return does_pass(
-            row / 0x100000000000 % 16,
+            (row / 0x100000000000 % 16) as u32,
             (row / 0x100000000 % 16) as u32,
             n,
         );

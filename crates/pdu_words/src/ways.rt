@@ -9,7 +9,7 @@ use text::put_text;
 use text::words::put_word;
 ghost use mathlib.Core.Path.{_≡_};
 ghost use Rattle.text.specs.Page.{page, Writes};
-ghost use Rattle.pdu_words.specs.Ways.{twoDigits, threeDigits, secondsText, tensText, octetsText, ending, nthText, wayText};
+ghost use Rattle.pdu_words.specs.Ways.{twoDigits, threeDigits, tenthText, secondsText, tenthsText, thousandthsText, signText, sizeOf, signedText, tensText, quartersText, octetsText, ending, nthText, wayText};
 ghost use Rattle.pdu_words.specs.CodeRows.{wayOf};
 
 // Its last two digits.
@@ -28,24 +28,86 @@ fn put_three(out: &mut Page, at: usize, n: u32) -> usize
     put_two(out, a, n)
 }
 
+// A point and the tenths behind it.
+fn put_tenth(out: &mut Page, at: usize, n: u32) -> usize
+    ensures { λ r. ⌜ Writes (page (now (out .entry)) at) (tenthText n) (page (now (out .exit)) r) ⌝ }
+{
+    let a = put_byte(out, at, b'.');
+    put_byte(out, a, 48 + (n % 10) as u8)
+}
+
 // Tenths of seconds of an angle.
 fn put_seconds(out: &mut Page, at: usize, n: u32) -> usize
     ensures { λ r. ⌜ Writes (page (now (out .entry)) at) (secondsText n) (page (now (out .exit)) r) ⌝ }
 {
     let a = put_two(out, at, n / 10);
+    put_tenth(out, a, n)
+}
+
+// Tenths of a degree of a track or a heading.
+fn put_tenths(out: &mut Page, at: usize, n: u32) -> usize
+    ensures { λ r. ⌜ Writes (page (now (out .entry)) at) (tenthsText n) (page (now (out .exit)) r) ⌝ }
+{
+    let a = put_decimal(out, at, (n / 10) as u64);
+    put_tenth(out, a, n)
+}
+
+// Thousandths: two decimals, and a third that is not 0.
+fn put_thousandths(out: &mut Page, at: usize, n: u32) -> usize
+    ensures { λ r. ⌜ Writes (page (now (out .entry)) at) (thousandthsText n) (page (now (out .exit)) r) ⌝ }
+{
+    let a = put_decimal(out, at, (n / 1000) as u64);
     let a = put_byte(out, a, b'.');
+    let a = put_two(out, a, n / 10);
+    if n % 10 == 0 {
+        return a;
+    }
     put_byte(out, a, 48 + (n % 10) as u8)
 }
 
-// Tens, with the sign of a number in two's complement: 002 counts levels in tens of feet.
+// The sign of a number in two's complement.
+fn put_sign(out: &mut Page, at: usize, n: u32) -> usize
+    ensures { λ r. ⌜ Writes (page (now (out .entry)) at) (signText n) (page (now (out .exit)) r) ⌝ }
+{
+    if n < 2147483648 {
+        return at;
+    }
+    put_byte(out, at, b'-')
+}
+
+// And its size.
+fn size_of(n: u32) -> u32
+    ensures { λ r. ⌜ r ≡ sizeOf n ⌝ }
+{
+    if n < 2147483648 {
+        return n;
+    }
+    (4294967296 - n as u64) as u32
+}
+
+fn put_signed(out: &mut Page, at: usize, n: u32) -> usize
+    ensures { λ r. ⌜ Writes (page (now (out .entry)) at) (signedText n) (page (now (out .exit)) r) ⌝ }
+{
+    let a = put_sign(out, at, n);
+    put_decimal(out, a, size_of(n) as u64)
+}
+
+// Tens, in which 002 counts levels and vertical rates.
 fn put_tens(out: &mut Page, at: usize, n: u32) -> usize
     ensures { λ r. ⌜ Writes (page (now (out .entry)) at) (tensText n) (page (now (out .exit)) r) ⌝ }
 {
-    if n < 2147483648 {
-        return put_decimal(out, at, (n as u64) * 10);
-    }
-    let a = put_byte(out, at, b'-');
-    put_decimal(out, a, (4294967296 - n as u64) * 10)
+    let a = put_sign(out, at, n);
+    put_decimal(out, a, size_of(n) as u64 * 10)
+}
+
+// Quarters, in which 002 counts temperatures.
+fn put_quarters(out: &mut Page, at: usize, n: u32) -> usize
+    ensures { λ r. ⌜ Writes (page (now (out .entry)) at) (quartersText n) (page (now (out .exit)) r) ⌝ }
+{
+    let a = put_sign(out, at, n);
+    let size = size_of(n);
+    let a = put_decimal(out, a, (size / 4) as u64);
+    put_word(out, a, b".25.5.75", &[0, 0, 3, 5, 8], (size % 4) as usize)
 }
 
 // Its last three octets in hexadecimal.
@@ -104,6 +166,10 @@ pub(crate) fn put_way(out: &mut Page, at: usize, way: u64, list: u8, n: u32, ite
         7 => put_listed(out, at, list, n),
         8 => put_nth(out, at, n),
         9 => put_list(out, at, list, n, items),
+        10 => put_tenths(out, at, n),
+        11 => put_signed(out, at, n),
+        12 => put_thousandths(out, at, n),
+        13 => put_quarters(out, at, n),
         _ => at,
     }
 }

@@ -29,7 +29,9 @@ pub(crate) fn put_name(out: &mut Page, at: usize, n: usize) -> usize
         secondminute\
         air: ground: ,  :  ()-:s every cancel emergencydemand reportemergency reportevent report: negative ack to \
         , used by noncompliance with  not metperiodic reportpositive ack to provider abort , positive ack, level  ft\
-        , accuracy , multiple units , acas , aircraft ",
+        , accuracy , multiple units , acas , aircraft \
+        , track , ground speed  kt, vertical rate  ft/min, heading , mach , ias \
+        , wind  at , wind speed , temperature  C, turbulence ",
         &[
             0,
             0,
@@ -119,6 +121,20 @@ pub(crate) fn put_name(out: &mut Page, at: usize, n: usize) -> usize
             1113,
             1120,
             1131,
+            1139,
+            1154,
+            1157,
+            1173,
+            1180,
+            1190,
+            1197,
+            1203,
+            1210,
+            1214,
+            1227,
+            1241,
+            1243,
+            1256,
         ],
         n,
     )

@@ -54,11 +54,11 @@ slice-aggregate-say-call-2 : tie.Need-slice-aggregate-say-call-2
 slice-aggregate-say-call-2 c = sym (length-take-le _ _ (search needs))
 
 array-share-prefix-list : tie.Need-array-share-prefix-list
-array-share-prefix-list c = let l : length (c .before .before .before .before .before .before .before .before .before .before .parse .result .numbers .list) ≡ 32 = search needs in
+array-share-prefix-list c = let l : length (c .before .before .before .before .before .before .before .before .before .before .parse .result .numbers .list) ≡ 48 = search needs in
     omega (arith, c .before .before .before .before .before .before .before .before .before .before .parse .ensures .numbers-fit)
 
 slice-aggregate-say-call-3 : tie.Need-slice-aggregate-say-call-3
-slice-aggregate-say-call-3 c = let l : length (c .before .before .before .before .before .before .before .before .before .before .before .parse .result .numbers .list) ≡ 32 = search needs in
+slice-aggregate-say-call-3 c = let l : length (c .before .before .before .before .before .before .before .before .before .before .before .parse .result .numbers .list) ≡ 48 = search needs in
     sym (length-take-le _ _ (omega (arith, c .before .before .before .before .before .before .before .before .before .before .before .parse .ensures .numbers-fit)))
 
 array-borrow-prefix-answer : tie.Need-array-borrow-prefix-answer

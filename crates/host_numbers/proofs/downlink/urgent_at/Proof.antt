@@ -9,6 +9,9 @@ truth-at-requires c κs = search needs
 fix-at-requires : tie.Need-fix-at-requires
 fix-at-requires c κs = search needs
 
+ground-vector-at-requires : tie.Need-ground-vector-at-requires
+ground-vector-at-requires c κs = search needs
+
 number-by-requires : tie.Need-number-by-requires
 number-by-requires c κs = search needs
 
@@ -17,14 +20,15 @@ number-requires c κs = search needs
 
 returns : tie.Need-returns
 unfolding urgentAt
-returns c =
-    let p0 = c in
-    let p1 = p0 .before in
-    let p2 = p1 .before in
-    let p3 = p2 .before in
-    rw (p3 .truth-at .ensures, p2 .fix-at .ensures, p1 .number-by .ensures, p0 .number .ensures)
+returns c = rw (c .before .before .before .before .truth-at .ensures, c .before .before .before .fix-at .ensures, c .before .before .ground-vector-at .ensures, c .before .number-by .ensures, c .number .ensures)
 
 pub urgent-at-spec : {M : Type 1} → statement M
 urgent-at-spec =
     tie.close
-    (tie.spec truth-at-requires fix-at-requires number-by-requires number-requires returns)
+    (tie.spec
+    truth-at-requires
+    fix-at-requires
+    ground-vector-at-requires
+    number-by-requires
+    number-requires
+    returns)

@@ -6,6 +6,15 @@ use Rattle.host_numbers.proofs.reports.report_at.Tie as tie
 fix-at-requires : tie.Need-fix-at-requires
 fix-at-requires c κs = search needs
 
+ground-vector-at-requires : tie.Need-ground-vector-at-requires
+ground-vector-at-requires c κs = search needs
+
+air-vector-at-requires : tie.Need-air-vector-at-requires
+air-vector-at-requires c κs = search needs
+
+weather-at-requires : tie.Need-weather-at-requires
+weather-at-requires c κs = search needs
+
 number-by-requires : tie.Need-number-by-requires
 number-by-requires c κs = search needs
 
@@ -14,11 +23,16 @@ number-requires c κs = search needs
 
 returns : tie.Need-returns
 unfolding reportAt
-returns c =
-    let p0 = c in
-    let p1 = p0 .before in
-    let p2 = p1 .before in
-    rw (p2 .fix-at .ensures, p1 .number-by .ensures, p0 .number .ensures)
+returns c = rw (c .before .before .before .before .before .fix-at .ensures, c .before .before .before .before .ground-vector-at .ensures, c .before .before .before .air-vector-at .ensures, c .before .before .weather-at .ensures, c .before .number-by .ensures, c .number .ensures)
 
 pub report-at-spec : {M : Type 1} → statement M
-report-at-spec = tie.close (tie.spec fix-at-requires number-by-requires number-requires returns)
+report-at-spec =
+    tie.close
+    (tie.spec
+    fix-at-requires
+    ground-vector-at-requires
+    air-vector-at-requires
+    weather-at-requires
+    number-by-requires
+    number-requires
+    returns)

@@ -16,11 +16,25 @@ present-requires c κs = search needs
 num-if-requires : tie.Need-num-if-requires
 num-if-requires c κs = search needs
 
+present-requires-2 : tie.Need-present-requires-2
+present-requires-2 c κs = search needs
+
+read-ground-vector-if-requires : tie.Need-read-ground-vector-if-requires
+read-ground-vector-if-requires c κs = search needs
+
 returns : tie.Need-returns
 unfolding emergencyReportC
 returns c =
-    like _ _ _ _ (by _ (c .before .before .before .before .before .mask .ensures) (then (c .before .before .before .before .read-fix .ensures) (rw (c .before .before .before .present .ensures) at (c .before .before .num-if .ensures))))
+    like _ _ _ _ (by _ (c .before .before .before .before .before .before .before .before .mask .ensures) (then (c .before .before .before .before .before .before .before .read-fix .ensures) (then (rw (c .before .before .before .before .before .before .present .ensures) at (c .before .before .before .before .before .num-if .ensures)) (rw (c .before .before .before .before .present2 .ensures) at (c .before .before .before .read-ground-vector-if .ensures)))))
 
 pub read-emergency-report-spec : {M : Type 1} → statement M
 read-emergency-report-spec =
-    tie.close (tie.spec mask-requires read-fix-requires present-requires num-if-requires returns)
+    tie.close
+    (tie.spec
+    mask-requires
+    read-fix-requires
+    present-requires
+    num-if-requires
+    present-requires-2
+    read-ground-vector-if-requires
+    returns)

@@ -19,11 +19,28 @@ present-requires c κs = search needs
 num-if-requires : tie.Need-num-if-requires
 num-if-requires c κs = search needs
 
+present-requires-2 : tie.Need-present-requires-2
+present-requires-2 c κs = search needs
+
+read-ground-vector-if-requires : tie.Need-read-ground-vector-if-requires
+read-ground-vector-if-requires c κs = search needs
+
+present-requires-3 : tie.Need-present-requires-3
+present-requires-3 c κs = search needs
+
+read-air-vector-if-requires : tie.Need-read-air-vector-if-requires
+read-air-vector-if-requires c κs = search needs
+
+present-requires-4 : tie.Need-present-requires-4
+present-requires-4 c κs = search needs
+
+read-weather-if-requires : tie.Need-read-weather-if-requires
+read-weather-if-requires c κs = search needs
+
 returns : tie.Need-returns
 unfolding reportC
 returns c =
-    like _ _ _ _ (after-ext (c .before .before .before .before .before .before .extension .ensures) (by _ (c .before .before .before .before .before .mask .ensures)
-    (then (c .before .before .before .before .read-fix .ensures) (rw (c .before .before .before .present .ensures) at (c .before .before .num-if .ensures)))))
+    like _ _ _ _ (after-ext (c .before .before .before .before .before .before .before .before .before .before .before .before .before .before .before .extension .ensures) (by _ (c .before .before .before .before .before .before .before .before .before .before .before .before .before .before .mask .ensures) (then (c .before .before .before .before .before .before .before .before .before .before .before .before .before .read-fix .ensures) (then (rw (c .before .before .before .before .before .before .before .before .before .before .before .before .present .ensures) at (c .before .before .before .before .before .before .before .before .before .before .before .num-if .ensures)) (then (rw (c .before .before .before .before .before .before .before .before .before .before .present2 .ensures) at (c .before .before .before .before .before .before .before .before .before .read-ground-vector-if .ensures)) (then (rw (c .before .before .before .before .before .before .before .before .present3 .ensures) at (c .before .before .before .before .before .before .before .read-air-vector-if .ensures)) (rw (c .before .before .before .before .before .before .present4 .ensures) at (c .before .before .before .before .before .read-weather-if .ensures))))))))
 
 pub read-report-spec : {M : Type 1} → statement M
 read-report-spec =
@@ -34,4 +51,10 @@ read-report-spec =
     read-fix-requires
     present-requires
     num-if-requires
+    present-requires-2
+    read-ground-vector-if-requires
+    present-requires-3
+    read-air-vector-if-requires
+    present-requires-4
+    read-weather-if-requires
     returns)

@@ -18,11 +18,25 @@ present-requires c κs = search needs
 num-if-requires : tie.Need-num-if-requires
 num-if-requires c κs = search needs
 
+present-requires-2 : tie.Need-present-requires-2
+present-requires-2 c κs = search needs
+
+write-ground-vector-if-requires : tie.Need-write-ground-vector-if-requires
+write-ground-vector-if-requires c κs = search needs
+
 returns : tie.Need-returns
 unfolding emergencyReportC field only
 returns c =
-    inks-like _ _ _ _ refl (inks-by _ _ (c .before .before .before .before .before .mask .ensures) (inks-by _ _ (c .before .before .before .write-fix .ensures) (rw (c .before .present .ensures) at (c .num-if .ensures))))
+    inks-like _ _ _ _ refl (inks-by _ _ (c .before .before .before .before .before .before .before .before .mask .ensures) (inks-by _ _ (c .before .before .before .before .before .before .write-fix .ensures) (inks-by _ _ (rw (c .before .before .before .before .present .ensures) at (c .before .before .before .num-if .ensures)) (rw (c .before .present2 .ensures) at (c .write-ground-vector-if .ensures)))))
 
 pub write-emergency-report-spec : {M : Type 1} → statement M
 write-emergency-report-spec =
-    tie.close (tie.spec mask-requires write-fix-requires present-requires num-if-requires returns)
+    tie.close
+    (tie.spec
+    mask-requires
+    write-fix-requires
+    present-requires
+    num-if-requires
+    present-requires-2
+    write-ground-vector-if-requires
+    returns)

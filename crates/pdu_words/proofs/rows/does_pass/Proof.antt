@@ -22,7 +22,11 @@ returns-3 c = rw (c .match .keys3)
 
 returns-4 : tie.Need-returns-4
 unfolding passes testOf
-returns-4 c = rw (ne-eqb _ 0 (c .match .rest .0 .0 .1), ne-eqb _ 1 (c .match .rest .0 .1), ne-eqb _ 2 (c .match .rest .1))
+returns-4 c = rw (c .match .keys4)
+
+returns-5 : tie.Need-returns-5
+unfolding passes testOf
+returns-5 c = rw (ne-eqb _ 0 (c .match .rest .0 .0 .0 .1), ne-eqb _ 1 (c .match .rest .0 .0 .1), ne-eqb _ 2 (c .match .rest .0 .1), ne-eqb _ 3 (c .match .rest .1))
 
 pub does-pass-spec : {M : Type 1} → statement M
-does-pass-spec = tie.close (tie.spec shr-result returns returns-2 returns-3 returns-4)
+does-pass-spec = tie.close (tie.spec shr-result returns returns-2 returns-3 returns-4 returns-5)

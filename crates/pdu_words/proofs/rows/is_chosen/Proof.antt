@@ -16,6 +16,9 @@ number-requires-2 c κs = search needs
 cast-does-pass : tie.Need-cast-does-pass
 cast-does-pass c = search needs
 
+cast-does-pass-2 : tie.Need-cast-does-pass-2
+cast-does-pass-2 c = search needs
+
 does-pass-requires : tie.Need-does-pass-requires
 does-pass-requires c κs = search needs
 
@@ -35,6 +38,7 @@ is-chosen-spec =
     shows-kind-requires
     number-requires-2
     cast-does-pass
+    cast-does-pass-2
     does-pass-requires
     returns
     returns-2)

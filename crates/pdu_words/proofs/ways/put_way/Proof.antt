@@ -33,6 +33,18 @@ put-nth-requires c κs = search needs
 put-list-requires : tie.Need-put-list-requires
 put-list-requires c κs = search needs
 
+put-tenths-requires : tie.Need-put-tenths-requires
+put-tenths-requires c κs = search needs
+
+put-signed-requires : tie.Need-put-signed-requires
+put-signed-requires c κs = search needs
+
+put-thousandths-requires : tie.Need-put-thousandths-requires
+put-thousandths-requires c κs = search needs
+
+put-quarters-requires : tie.Need-put-quarters-requires
+put-quarters-requires c κs = search needs
+
 returns : tie.Need-returns
 unfolding wayText wayOf
 returns c = rw (c .before .before .match .keys1) (c .put-decimal .ensures)
@@ -71,7 +83,23 @@ returns-9 c = rw (c .before .before .match .keys9) (c .put-list .ensures)
 
 returns-10 : tie.Need-returns-10
 unfolding wayText wayOf
-returns-10 c = rw (ne-eqb _ 1 (c .match .rest .0 .0 .0 .0 .0 .0 .0 .0 .1), ne-eqb _ 2 (c .match .rest .0 .0 .0 .0 .0 .0 .0 .1), ne-eqb _ 3 (c .match .rest .0 .0 .0 .0 .0 .0 .1), ne-eqb _ 4 (c .match .rest .0 .0 .0 .0 .0 .1), ne-eqb _ 5 (c .match .rest .0 .0 .0 .0 .1), ne-eqb _ 6 (c .match .rest .0 .0 .0 .1), ne-eqb _ 7 (c .match .rest .0 .0 .1), ne-eqb _ 8 (c .match .rest .0 .1), ne-eqb _ 9 (c .match .rest .1)) (record { is = refl })
+returns-10 c = rw (c .before .before .match .keys10) (c .put-tenths .ensures)
+
+returns-11 : tie.Need-returns-11
+unfolding wayText wayOf
+returns-11 c = rw (c .before .before .match .keys11) (c .put-signed .ensures)
+
+returns-12 : tie.Need-returns-12
+unfolding wayText wayOf
+returns-12 c = rw (c .before .before .match .keys12) (c .put-thousandths .ensures)
+
+returns-13 : tie.Need-returns-13
+unfolding wayText wayOf
+returns-13 c = rw (c .before .before .match .keys13) (c .put-quarters .ensures)
+
+returns-14 : tie.Need-returns-14
+unfolding wayText wayOf
+returns-14 c = rw (ne-eqb _ 1 (c .match .rest .0 .0 .0 .0 .0 .0 .0 .0 .0 .0 .0 .0 .1), ne-eqb _ 2 (c .match .rest .0 .0 .0 .0 .0 .0 .0 .0 .0 .0 .0 .1), ne-eqb _ 3 (c .match .rest .0 .0 .0 .0 .0 .0 .0 .0 .0 .0 .1), ne-eqb _ 4 (c .match .rest .0 .0 .0 .0 .0 .0 .0 .0 .0 .1), ne-eqb _ 5 (c .match .rest .0 .0 .0 .0 .0 .0 .0 .0 .1), ne-eqb _ 6 (c .match .rest .0 .0 .0 .0 .0 .0 .0 .1), ne-eqb _ 7 (c .match .rest .0 .0 .0 .0 .0 .0 .1), ne-eqb _ 8 (c .match .rest .0 .0 .0 .0 .0 .1), ne-eqb _ 9 (c .match .rest .0 .0 .0 .0 .1), ne-eqb _ 10 (c .match .rest .0 .0 .0 .1), ne-eqb _ 11 (c .match .rest .0 .0 .1), ne-eqb _ 12 (c .match .rest .0 .1), ne-eqb _ 13 (c .match .rest .1)) (record { is = refl })
 
 pub put-way-spec : {M : Type 1} → statement M
 put-way-spec =
@@ -86,6 +114,10 @@ put-way-spec =
     put-listed-requires
     put-nth-requires
     put-list-requires
+    put-tenths-requires
+    put-signed-requires
+    put-thousandths-requires
+    put-quarters-requires
     returns
     returns-2
     returns-3
@@ -95,4 +127,8 @@ put-way-spec =
     returns-7
     returns-8
     returns-9
-    returns-10)
+    returns-10
+    returns-11
+    returns-12
+    returns-13
+    returns-14)
