@@ -37,7 +37,7 @@ pub fn shown(at: usize, out: &[u8]) -> usize
 }
 
 // Writes what stands on the page.
-pub fn write_out(at: usize, out: &[u8]) -> bool {
+fn write_out(at: usize, out: &[u8]) -> bool {
     let n = shown(at, out);
     io::write_all(STDOUT_FILENO, &out[..n])
 }
