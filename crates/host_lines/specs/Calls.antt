@@ -30,17 +30,17 @@ wordOf w = foundFrom 1 w hostWords
 -- the number that a call gives, the length that it tells, and its two lent buffers
 pub record After : Type 0 where
   pub number : ℕ
-  pub length : ℕ
+  pub told : ℕ
   pub link : List ℕ
   pub out : List ℕ
 
 -- writing: the length was 999 before it
 unfoldable pub written : List ℕ → Delivered → After
-written link d = record { number = numberOf (d .answer); length = lengthOf (d .answer) 999; link = link; out = d .octets }
+written link d = record { number = numberOf (d .answer); told = lengthOf (d .answer) 999; link = link; out = d .octets }
 
 -- a call on a record
 unfoldable pub onLink : Done → After
-onLink d = record { number = d .number; length = 999; link = d .link; out = d .answer }
+onLink d = record { number = d .number; told = 999; link = d .link; out = d .answer }
 
 abbrev pub opens : Opening → List ℕ → Done
 opens o out = record { number = o .number; link = o .link; answer = out }
@@ -70,6 +70,6 @@ called w link octets numbers out =
 -- what the code gives
 pub record Does (a : After) (r : Called) (link out : List ℕ) : Type 0 where
   pub number-is : r .number ≡ a .number
-  pub length-is : r .length ≡ a .length
+  pub length-is : r .length ≡ a .told
   pub link-is : link ≡ a .link
   pub out-is : out ≡ a .out

@@ -11,10 +11,10 @@ use Rattle.host_lines.specs.Calls.{After, wordOf, called}
 
 -- `NUMBER LENGTH LINK OUT`
 unfoldable pub toldText : ℕ → ℕ → List ℕ → List ℕ → List ℕ
-toldText number length link out = decimal number ++ ((32 ∷ []) ++ (decimal length ++ ((32 ∷ []) ++ (hexText link ++ ((32 ∷ []) ++ hexText out)))))
+toldText number told link out = decimal number ++ ((32 ∷ []) ++ (decimal told ++ ((32 ∷ []) ++ (hexText link ++ ((32 ∷ []) ++ hexText out)))))
 
 abbrev pub afterText : After → List ℕ
-afterText a = toldText (a .number) (a .length) (a .link) (a .out)
+afterText a = toldText (a .number) (a .told) (a .link) (a .out)
 
 -- the call of the word with the number w; "script line not readable" is 17
 unfoldable pub askText : ℕ → Ask → List ℕ
