@@ -203,7 +203,8 @@ class Pool:
                 octets = write(family, random_value(rng, family))
                 if len(self.of[name_of(octets)]) < self.EACH:
                     self.of[name_of(octets)].append(octets)
-        self.of['req/periodic-contract'] += [self.periodic(rng, interval) for interval in INTERVALS for _ in range(4)]
+        intervals = [*INTERVALS, ('seconds', rng.randint(2, 58)), ('minutes', rng.randint(2, 119))]
+        self.of['req/periodic-contract'] += [self.periodic(rng, interval) for interval in intervals for _ in range(4)]
         self.bad = {family: self.unreadable(rng, family, name_of)
                     for family, name_of in (('air', downlink), ('ground', request))}
 
@@ -313,13 +314,14 @@ class Maker:
 
     def telling(self, link, draw):
         """The next line of a story; now and then time goes by."""
-        if draw < 0.1:
+        if draw < 0.1 and link.left:
             return self.clock(link)
         if not self.story and link.li == 'END':
             return self.of_kind('end-cnf')
         self.story = self.story or self.new_story(link)
         event = self.story.pop(0)
         if event == 'break':
+            self.story = []
             return self.breaking(link, self.rng.choice((0, 1)))
         if event == 'time':
             return b'elapse %d' % self.about_end(link) if link.left else self.clock(link)
@@ -341,7 +343,7 @@ class Maker:
         if self.rng.random() < 0.5:
             place = self.rng.choice((0, self.rng.randrange(len(calls))))
             calls[place:place] = ['emergency']
-            calls += [*self.maybe('req/modify-emergency'), 'cancel-emergency']
+            calls += self.maybe('req/modify-emergency', *self.maybe('break')) + ('cancel-emergency',)
         return [*calls, *self.maybe('periodic-report')]
 
     def change(self):
@@ -373,7 +375,7 @@ class Maker:
         return min(MOST, self.rng.choice((left, left - 1, left + 1, link.settings[timer], link.settings[timer] - 1, MOST)))
 
     def about_end(self, link):
-        return min(MOST, first_end(link)[1] + self.coverage.rarest_edge(link))
+        return max(1, min(MOST, first_end(link)[1] + self.coverage.rarest_edge(link)))
 
     def rarest(self, events, link):
         return min(events, key=lambda event: (*self.coverage.rarity(link, event), self.rng.random()))
