@@ -177,8 +177,8 @@ PC_IDLE = 'clear asked, clear force'
 INTERVAL_STATES = {'asked': ('START-PENDING', 'PENDING'), 'force': ('ACTIVE', 'PENDING', 'CANCEL')}
 LONGEST = 7200
 
-# "PC2 must run for the interval in force plus its setting, which becomes a grace"; else, "a start loads the timer's
-# setting" (01). "29 read[s] "no more than interval plus grace" for PC2".
+# "PC2 must run for the interval in force plus its setting, which becomes a grace". For the rest 01: "A start loads the
+# timer's setting." Refusal 29 reads "no more than interval plus grace" for PC2.
 LOADS = {timer: ('setting', 'force') if timer == 'PC2' else ('setting',) for timer, _, _ in WATCH}
 
 # "seconds 1..59 (0) or minutes 1..120 (1)", and 5 minutes where the contract leaves it out, as percoder.py reads it.
@@ -478,7 +478,7 @@ class Call:
 
 
 @functools.lru_cache(maxsize=100000)
-def taken_apart(line):
+def call_of(line):
     return Call(line)
 
 
@@ -523,7 +523,7 @@ class Box:
         return self.link.call(call.kind, call.octets)
 
     def answer(self, line):
-        call = taken_apart(line)
+        call = call_of(line)
         for judge in self.rules.order:
             number = getattr(self, judge)(call)
             if number:
@@ -537,8 +537,8 @@ def lines(script):
     return parts if parts[-1] else parts[:-1]
 
 
-def trace(script, rules=RULES, link=Link):
-    box, parts = Box(rules, link), lines(script)
+def trace(script, rules=RULES, link=Link, made=Box):
+    box, parts = made(rules, link), lines(script)
     answers = [f'{place} {box.answer(line)}' for place, line in enumerate(parts, 1)]
     return '\n'.join(['adsc trace 1', *answers, f'end {len(parts)}', '']).encode()
 

@@ -10,16 +10,16 @@ import dataclasses
 import functools
 import operator
 
-from linkmodel import (ASKED, DOWNLINK, INTERVAL_STATES, LIMITS, MODULES, ORDER, REASONS, RULES, WORDS, Link, read, seconds,
-                       trace)
+from linkmodel import (ASKED, DOWNLINK, INTERVAL_STATES, LIMITS, MODULES, ORDER, REASONS, RULES, WORDS, Box, Link, call_of,
+                       read, seconds, trace)
 from linkscripts import LI_STATES, STATES
 from percoder import DEFAULTS
 
 BLIND = tuple(judge for judge in ORDER if judge != 'bad_record')
 
 
-def changed(link=Link, **fields):
-    return functools.partial(trace, rules=dataclasses.replace(RULES, **{'order': BLIND, **fields}), link=link)
+def changed(link=Link, made=Box, **fields):
+    return functools.partial(trace, rules=dataclasses.replace(RULES, **{'order': BLIND, **fields}), link=link, made=made)
 
 
 judged = functools.partial(changed, order=ORDER)
@@ -313,7 +313,8 @@ class NotInEmergency(Link):
 class AtEmergencysEnd(Link):
     """What is agreed during an emergency comes into force at its end."""
     def set_intervals(self, todo, octets):
-        super().set_intervals([step for step in todo if not self.emergency() or 'force' not in todo[0]], octets)
+        if 'asked into force' not in todo or not self.emergency():
+            super().set_intervals(todo, octets)
 
     def step(self, step, octets, send):
         if step == 'start PC2 if PC is ACTIVE' and self.asked and self.state['PC'] == 'ACTIVE':
@@ -391,6 +392,15 @@ class JudgedByGrace(Link):
         return super().good() and self.left.get('PC2', 0) <= self.settings['PC2']
 
 
+class RefusedAsks(Box):
+    """A request that is refused while another one has no answer asks for its interval."""
+    def answer(self, line):
+        answer, call = super().answer(line), call_of(line)
+        if answer == 'refused 1' and call.event == 'req/periodic-contract' and self.link.asked:
+            self.link.set_intervals(('ask',), call.octets)
+        return answer
+
+
 ABSENT = DEFAULTS['periodic-contract', 'interval']
 
 # How an interval is counted, in seconds.
@@ -420,6 +430,7 @@ def interval_load_mutants():
     for link in (NotInEmergency, AtEmergencysEnd, FromBeforeEmergency, LoadedTooEarly, FirstAtReports, ModifyCounts, ModifyLoads,
                  LoadsADayAtMost):
         yield f'interval.{link.__name__}', changed(link)
+    yield 'interval.RefusedAsks', changed(made=RefusedAsks)
 
 
 def interval_record_mutants():

@@ -8,7 +8,7 @@ import collections
 import functools
 
 from compare_coder import DAMAGES, random_value
-from linkmodel import DOWNLINK, LIMITS, REQUESTS, RULES, Box, Call, downlink, request, seconds
+from linkmodel import DOWNLINK, LIMITS, REQUESTS, RULES, Box, call_of, downlink, request, seconds
 from percoder import DEFAULTS, write
 
 LI_STATES = ('IDLE', 'START', 'ACTIVE', 'END')
@@ -30,11 +30,12 @@ SIZES = [seconds(*interval) for interval in INTERVALS]
 
 ANSWERS = ('periodic-report+ack', 'positive-ack/periodic', 'noncompliance/periodic', 'negative-ack/periodic')
 
-# With a periodic contract in force, what makes each other timer run.
+# With a periodic contract in force, what makes each other timer run; a cancel also meets what ends the link.
 BESIDE_PC2 = [
     ('req/demand-contract',), ('req/demand-contract', 'noncompliance/demand'), ('req/event-contract',),
     ('req/event-contract', 'positive-ack/event', 'req/cancel-contract/event'), ('req/periodic-contract',),
-    ('req/cancel-contract/periodic',), ('emergency',), ('emergency', 'req/modify-emergency')]
+    ('req/cancel-contract/periodic',), ('req/cancel-contract/periodic', 'break'), ('emergency',),
+    ('emergency', 'req/modify-emergency')]
 
 # How a timer's end is met: PC2 by the row that started it and by the interval in force, the others with one in force and
 # without; and where time comes to a halt there.
@@ -130,7 +131,7 @@ class Coverage:
         self.started = None                     # the row that started PC2 last
 
     def note(self, link, line):
-        call = Call(line)
+        call = call_of(line)
         kind = kind_of(link, call)
         self.lines[link.li if link else BEFORE, kind] += 1
         self.joints['END'] += link is not None and link.li == 'END'
@@ -156,13 +157,11 @@ class Coverage:
             self.ends.update((end, EDGES[seconds - left]) for end in self.ends_of(link, timer))
 
     def rarest_edge(self, link):
-        """The edge that was met least, of the timer that ends first."""
+        """The edge that was met least, of the timer that ends first, and how often it was."""
         ends = self.ends_of(link, first_end(link)[0])
-        return min(EDGES, key=lambda edge: sorted(self.ends[end, EDGES[edge]] for end in ends))
-
-    def end_rarity(self, link):
-        edge = EDGES[self.rarest_edge(link)]
-        return min(self.ends[end, edge] for end in self.ends_of(link, first_end(link)[0]))
+        met = {edge: sorted(self.ends[end, name] for end in ends) for edge, name in EDGES.items()}
+        edge = min(met, key=met.get)
+        return edge, met[edge][0]
 
     def rarity(self, link, event):
         """How often an event met the least of its pairs at the present states."""
@@ -264,7 +263,7 @@ class Maker:
             return self.opening(draw)
         if self.story is not None:
             return self.telling(link, draw)
-        if link.left and draw < 0.3 and self.coverage.end_rarity(link) < 4:
+        if link.left and draw < 0.3 and self.coverage.rarest_edge(link)[1] < 4:
             return b'elapse %d' % self.about_end(link)
         if self.rng.random() < self.rough:
             return self.breaking(link, draw)
@@ -347,7 +346,9 @@ class Maker:
         return [*calls, *self.maybe('periodic-report')]
 
     def change(self):
-        return ['req/periodic-contract', *self.maybe('periodic-report'), self.rng.choice(ANSWERS)]
+        """A request and its answer; between them maybe a report, which is none, or a request, which is refused."""
+        between = self.rng.choice(((), ('periodic-report',), ('req/periodic-contract',)))
+        return ['req/periodic-contract', *between, self.rng.choice(ANSWERS)]
 
     def maybe(self, *events):
         return self.rng.choice((events, ()))
@@ -356,7 +357,7 @@ class Maker:
         """What ends the link, if there is one: data not listed or unreadable, an expiry, cancel-all, aborts."""
         if draw < 0.65 and link.li in ('START', 'ACTIVE'):
             event = self.rarest(ENDING[link.li], link)
-            fresh = self.coverage.rarity(link, event)[0] < 3
+            fresh = self.coverage.rarity(link, event)[0] < 2
             return self.of_event(link, event) if fresh or self.rng.random() < 0.5 else self.forward(link)
         if draw < 0.8 and link.left:
             return b'elapse %d' % self.near(link)
@@ -375,7 +376,7 @@ class Maker:
         return min(MOST, self.rng.choice((left, left - 1, left + 1, link.settings[timer], link.settings[timer] - 1, MOST)))
 
     def about_end(self, link):
-        return max(1, min(MOST, first_end(link)[1] + self.coverage.rarest_edge(link)))
+        return max(1, min(MOST, first_end(link)[1] + self.coverage.rarest_edge(link)[0]))
 
     def rarest(self, events, link):
         return min(events, key=lambda event: (*self.coverage.rarity(link, event), self.rng.random()))
