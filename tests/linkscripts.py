@@ -263,7 +263,7 @@ class Maker:
             return self.opening(draw)
         if self.story is not None:
             return self.telling(link, draw)
-        if link.left and draw < 0.3 and self.coverage.rarest_edge(link)[1] < 4:
+        if link.left and draw < 0.3 and not self.coverage.rarest_edge(link)[1]:     # an end not met yet
             return b'elapse %d' % self.about_end(link)
         if self.rng.random() < self.rough:
             return self.breaking(link, draw)
