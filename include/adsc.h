@@ -30,7 +30,7 @@ extern "C" {
 
 /* ---- sizes */
 
-#define ADSC_LINK_OCTETS 77     /* of a link record, exactly */
+#define ADSC_LINK_OCTETS 85     /* of a link record, exactly */
 #define ADSC_ANSWER_OCTETS 22   /* of an answer; a longer buffer keeps what follows */
 #define ADSC_TIMERS 9           /* settings of adsc_open */
 #define ADSC_GROUND_NUMBERS 9   /* of a ground PDU */
@@ -40,6 +40,7 @@ extern "C" {
 #define ADSC_ACTIONS_MOST 8     /* in one answer */
 #define ADSC_SENT_MOST 8        /* octets of the PDU in one answer */
 #define ADSC_SECONDS_MOST 86400 /* of a setting and of one adsc_elapse */
+#define ADSC_INTERVAL_MOST 7200 /* seconds of a record's interval: 120 minutes, the longest that can be asked for */
 
 /* ---- refusals */
 
@@ -62,8 +63,9 @@ enum adsc_refusal {
     ADSC_NO_ELEMENT = 15,       /* event contract with no element */
     ADSC_INPUT_OVER = 16,       /* input over 128 octets */
     ADSC_SCRIPT_LINE = 17,      /* script line not readable: of the bench's scripts, no function gives it */
-    ADSC_BAD_RECORD = 29        /* link record: running timers not those of the watch table, seconds left not 1..setting, a setting not 1..86,400, or LI in
-                                 * IDLE or END with a module not IDLE; numbers that are no states; not of 77 octets */
+    ADSC_BAD_RECORD = 29        /* link record: running timers not those of the watch table, seconds left not 1..setting (of PC2: 1..interval in force plus
+                                 * setting), a setting not 1..86,400, an interval missing from its state of PC, foreign to it, or over 7,200, or LI in IDLE or
+                                 * END with a module not IDLE; numbers that are no states; not of 85 octets */
 };
 
 /* ---- timers, in watch order: the order of the settings, and the number in a timer's actions */
@@ -74,7 +76,7 @@ enum adsc_timer {
     ADSC_EC1 = 2,               /* an event contract is asked for */
     ADSC_EC2 = 3,               /* its cancel is asked for */
     ADSC_PC1 = 4,               /* a periodic contract is asked for */
-    ADSC_PC2 = 5,               /* one is in force: the next report is due. Rests in an emergency */
+    ADSC_PC2 = 5,               /* one is in force: the next report is due. Runs for the interval in force and its setting, the grace. Rests in an emergency */
     ADSC_PC3 = 6,               /* its cancel is asked for */
     ADSC_EM1 = 7,               /* an emergency: the next report is due */
     ADSC_EM2 = 8                /* a change of its interval is asked for */
@@ -239,7 +241,9 @@ enum adsc_link_place {
     ADSC_LINK_EC = 73,
     ADSC_LINK_PC = 74,
     ADSC_LINK_EM = 75,
-    ADSC_LINK_LI = 76
+    ADSC_LINK_LI = 76,
+    ADSC_LINK_ASKED = 77,       /* seconds between periodic reports, 1..ADSC_INTERVAL_MOST: as asked for, where PC is START-PENDING or PENDING, */
+    ADSC_LINK_FORCE = 81        /* and as in force, where it is PENDING, ACTIVE or CANCEL. 0 in the other states: none */
 };
 
 enum adsc_dc_state { ADSC_DC_IDLE = 0, ADSC_DC_PENDING = 1, ADSC_DC_ACTIVE = 2 };
@@ -247,6 +251,46 @@ enum adsc_ec_state { ADSC_EC_IDLE = 0, ADSC_EC_START_PENDING = 1, ADSC_EC_PENDIN
 enum adsc_pc_state { ADSC_PC_IDLE = 0, ADSC_PC_START_PENDING = 1, ADSC_PC_PENDING = 2, ADSC_PC_ACTIVE = 3, ADSC_PC_CANCEL = 4 };
 enum adsc_em_state { ADSC_EM_IDLE = 0, ADSC_EM_ACTIVE = 1, ADSC_EM_MODIFY = 2 };
 enum adsc_li_state { ADSC_LI_IDLE = 0, ADSC_LI_START = 1, ADSC_LI_ACTIVE = 2, ADSC_LI_END = 3 };
+
+/* For the readers of this header alone: four octets, the most significant first. */
+static inline uint32_t adsc_number_at(const uint8_t *at)
+{
+    return (uint32_t)at[0] << 24 | (uint32_t)at[1] << 16 | (uint32_t)at[2] << 8 | at[3];
+}
+
+/* What a desk can show of a record. The record is one that adsc_open or another call has made or accepted: the readers check nothing in it.
+ *
+ * The setting of a timer, */
+static inline uint32_t adsc_link_setting(const uint8_t *link, size_t timer)
+{
+    return timer < ADSC_TIMERS ? adsc_number_at(link + ADSC_LINK_SETTINGS + 4 * timer) : 0;
+}
+
+/* and the seconds that it has left; 0 where it does not run. */
+static inline uint32_t adsc_link_left(const uint8_t *link, size_t timer)
+{
+    return timer < ADSC_TIMERS ? adsc_number_at(link + ADSC_LINK_LEFT + 4 * timer) : 0;
+}
+
+/* The seconds between periodic reports that are asked for and not yet answered, */
+static inline uint32_t adsc_link_asked(const uint8_t *link)
+{
+    return adsc_number_at(link + ADSC_LINK_ASKED);
+}
+
+/* and those in force; 0 where there are none. */
+static inline uint32_t adsc_link_force(const uint8_t *link)
+{
+    return adsc_number_at(link + ADSC_LINK_FORCE);
+}
+
+/* The seconds until the next periodic report is due: what PC2 has left without its setting, the grace. Only of use where PC2 runs. A desk shows it as "next
+ * report due in" while it is above 0. At 0 and below the grace is running: "overdue by" so many seconds, and what PC2 has left as "until the link ends"
+ * (examples/host/desk.c). */
+static inline int32_t adsc_link_due(const uint8_t *link)
+{
+    return (int32_t)(adsc_link_left(link, ADSC_PC2) - adsc_link_setting(link, ADSC_PC2));
+}
 
 /* ---- the answer of an accepted call: what to do, in order. The readers below spare the host its layout. */
 
@@ -260,7 +304,7 @@ enum adsc_action {
     ADSC_PEER_ABORT = 7,        /* the same, by the aircraft's user */
     ADSC_LATE = 8,              /* this data came after the end request and was set aside unread */
     ADSC_STOP_TIMER = 16,       /* plus the timer. For a display or a log: the record counts the seconds, and the host needs no timer of its own */
-    ADSC_START_TIMER = 32       /* plus the timer, which has its setting left */
+    ADSC_START_TIMER = 32       /* plus the timer, which has its setting left; PC2 has the interval in force and its setting */
 };
 
 enum adsc_answer_place { ADSC_ANSWER_REASON = 0, ADSC_ANSWER_ACTIONS = 4, ADSC_ANSWER_SENT = 13 };
@@ -268,8 +312,7 @@ enum adsc_answer_place { ADSC_ANSWER_REASON = 0, ADSC_ANSWER_ACTIONS = 4, ADSC_A
 /* The reason of an abort indication; 0 where there is none. */
 static inline uint32_t adsc_answer_reason(const uint8_t *answer)
 {
-    const uint8_t *r = answer + ADSC_ANSWER_REASON;
-    return (uint32_t)r[0] << 24 | (uint32_t)r[1] << 16 | (uint32_t)r[2] << 8 | r[3];
+    return adsc_number_at(answer + ADSC_ANSWER_REASON);
 }
 
 /* How many actions there are, 0 to ADSC_ACTIONS_MOST, */
@@ -298,7 +341,7 @@ static inline const uint8_t *adsc_answer_sent_octets(const uint8_t *answer)
 
 /* ---- a link */
 
-/* A new link record, everything IDLE, from nine settings in watch order. Refuses: 3, 6 (a record that is not of 77 octets). */
+/* A new link record, everything IDLE, from nine settings in watch order. Refuses: 3, 6 (a record that is not of 85 octets). */
 uint8_t adsc_open(const uint32_t *settings, size_t settings_length, uint8_t *link, size_t link_length);
 
 /* Calls on a record. Each refuses 29 first, and 6 last: an answer of less than 22 octets; what stands between is said below. */

@@ -21,7 +21,7 @@ import sys
 import hostlines
 import hostmodel
 import percoder
-from hostmodel import ORDER, RULES, STATES
+from hostmodel import INTERVALS, LINK_OCTETS, ORDER, RULES, STATES
 from linkmutants import replaced
 from percoder import PRESENCE
 
@@ -157,6 +157,35 @@ def without_state(place, state):
     return replaced(RULES.watch, place, (timer, tuple(other for other in states if other != state), also))
 
 
+def keeping(place, kept):
+    """One interval is not what a call makes of it."""
+    def alter(before, after):
+        return [kept(*pair) if at == place else pair[1] for at, pair in enumerate(zip(before, after))]
+    return ruled(kept=alter)
+
+
+def interval_changes(place, name, states):
+    where, _ = RULES.places[place]
+    yield f'{name}, least significant octet first', ruled(places=replaced(RULES.places, place, (where, 'little')))
+    for most in (7199, 7201):
+        yield f'{name} up to {most}', ruled(longest=replaced(RULES.longest, place, most))
+    for state in STATES['PC']:
+        other = replaced(RULES.wanted, place, tuple(set(states) ^ {state}))
+        yield (f'{name} may be missing in {state}', ruled(wanted=other)) if state in states else (f'{name} may be in {state}', ruled(allowed=other))
+        yield f'{name} {"not" if state in states else "due"} in {state}', ruled(wanted=other, allowed=other)
+    yield f'{name} not written back', keeping(place, lambda was, now: was)
+    yield f'{name} written back as none', keeping(place, lambda was, now: 0)
+    yield f'{name} never cleared', keeping(place, lambda was, now: now or was)
+
+
+def grace_changes():
+    yield 'its setting', ruled(grace=lambda setting, asked, force: setting)
+    yield 'its interval', ruled(grace=lambda setting, asked, force: force)
+    yield 'the longer of both', ruled(grace=lambda setting, asked, force: max(force, setting))
+    yield 'both and one more', ruled(grace=lambda setting, asked, force: force + setting + 1)
+    yield 'both but one', ruled(grace=lambda setting, asked, force: force + setting - 1)
+
+
 def first(judge):
     return (judge, *(other for other in ORDER if other != judge))
 
@@ -206,8 +235,14 @@ def changes():
         yield f'records: {li} wants every module IDLE', ruled(ended=(*RULES.ended, li))
     for place, module in enumerate(STATES):
         yield f'records: one state more of {module}', ruled(states=tuple(most + (place == at) for at, most in enumerate(RULES.states)))
-    for size in (76, 78):
-        yield f'records: {size} octets', ruled(sizes=(77, size))
+    for size in (76, 77, 78, 84, 86):
+        yield f'records: {size} octets', ruled(sizes=(LINK_OCTETS, size))
+    yield 'records: asked and force exchanged', ruled(places=RULES.places[::-1])
+    for place, (name, states) in enumerate(INTERVALS.items()):
+        for what, change in interval_changes(place, name, states):
+            yield f'records: {what}', change
+    for most, change in grace_changes():
+        yield f'records: PC2 has at most {most} left', change
     for place, (timer, states, also) in enumerate(RULES.watch):
         for state in states:
             yield f'records: {timer} need not run in {state}', ruled(watch=without_state(place, state))
@@ -290,6 +325,11 @@ def show_met(numbers, met):
         for how in ('runs', 'rests'):
             names = [what.format(edge) for edge in edges]
             print(f'a timer {how}:', *(f'{name} {sum(met[f"{timer} {how}: {name}"] for timer in hostlines.TIMERS)},' for name in names))
+    print('PC2:', *(f'{edge} left {met[f"PC2: {edge} left"]},' for edge in hostlines.GRACES))
+    for name, states in INTERVALS.items():
+        for how, some in (('has', states), ('lacks', set(STATES['PC']) - set(states))):
+            print(f'{name} where PC {how} it:', *(f'{n} {sum(met[f"PC {state}: {name} {n}"] for state in some)},' for n in hostlines.SECONDS))
+    print('in force after a call:', *(f'{force} {sum(met[name] for name in met if f": {force} in force" in name)},' for force in hostlines.FORCES))
     print(f'edges and grounds met: writing {sum(met[name] > 0 for name in hostlines.WRITING_DUE)}/{len(hostlines.WRITING_DUE)},',
           f'records {sum(met[name] > 0 for name in hostlines.RECORDS_DUE)}/{len(hostlines.RECORDS_DUE)}')
 
@@ -302,6 +342,7 @@ def compare(program, lines, met, change):
     wrong = [place for place, text in enumerate(expected) if answers[place] != text]
     if change is None:
         numbers = tally(lines, expected)
+        met.update(name for line, text in zip(lines, expected) for name in hostlines.moved(line, text))
         faults += faults_of(numbers, met)
         show_met(numbers, met)
     print(f'differences {len(wrong)}')

@@ -41,6 +41,7 @@ CONSTANTS = {
         "ADSC_ABORT_INDICATION": "ABORT_IND", "ADSC_PEER_ABORT": "PEER_ABORT_IND", "ADSC_LATE": "LATE"},
     "link/src/actions.rt": {"ADSC_INDICATION": "IND", "ADSC_STOP_TIMER": "STOP", "ADSC_START_TIMER": "START"},
     "link/src/moves.rt": {"ADSC_TIMERS": "TIMERS"},
+    "ground_tables/src/intervals.rt": {"ADSC_INTERVAL_MOST": "INTERVAL_MOST"},
     "ground_tables/src/names.rt": {
         **{f"ADSC_LI_{state}": f"LI_{state}" for state in ("IDLE", "START", "ACTIVE", "END")},
         **{f"ADSC_{timer}": timer for timer in ("DC1", "DC2", "EC1", "EC2", "PC1", "PC2", "PC3", "EM1", "EM2")},
@@ -82,7 +83,8 @@ TEXTS = {
     "host_record/src/record.rt": {
         "ADSC_LINK_SETTINGS": r"let setting = words_at\(s, (\d+)\)", "ADSC_LINK_LEFT": r"let left = words_at\(s, (\d+)\)",
         "ADSC_LINK_DC": r"out\[(\d+)\] = at\[0\]", "ADSC_LINK_EC": r"out\[(\d+)\] = at\[1\]", "ADSC_LINK_PC": r"out\[(\d+)\] = at\[2\]",
-        "ADSC_LINK_EM": r"out\[(\d+)\] = at\[3\]", "ADSC_LINK_LI": r"out\[(\d+)\] = at\[4\]"},
+        "ADSC_LINK_EM": r"out\[(\d+)\] = at\[3\]", "ADSC_LINK_LI": r"out\[(\d+)\] = at\[4\]",
+        "ADSC_LINK_ASKED": r"\basked(?: =|:) read_word\(s, (\d+)\)", "ADSC_LINK_FORCE": r"\bforce(?: =|:) read_word\(s, (\d+)\)"},
     "link/src/watch.rt": {"ADSC_SECONDS_MOST": r"x <= (\d+)"},
     "host_numbers/src/copy.rt": {"ADSC_LIST_OCTETS": r"fn items_of\(.*\) -> \[u8; (\d+)\]"},
 }

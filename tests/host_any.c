@@ -2,7 +2,8 @@
  *
  * Every buffer stands against a page that cannot be touched, so that a call that reads too far ends the test. After each call:
  *   - refused: every buffer and what stands round it is as it was; the refusal is one that adsc.h names for the function; 6 is the last of them;
- *   - accepted: nothing but the result's place has changed, the room was enough, the record is taken by the next call, octets and numbers go both ways.
+ *   - accepted: nothing but the result's place has changed, the room was enough, the record is taken by the next call, its intervals and seconds are those
+ *     of its states, octets and numbers go both ways.
  * At the end every function has been accepted, and refused with each number that adsc.h names. SPOIL makes a mistake of its own, which must be found. */
 #define _DEFAULT_SOURCE
 #include <inttypes.h>
@@ -111,7 +112,7 @@ static bool unchanged(const struct lent *b, size_t n)
 /* ---- what is lent */
 
 static uint8_t live[ADSC_LINK_OCTETS];      /* a link in use; once it has left IDLE it seldom goes back, so that all states are met */
-static bool random_record;                  /* whether this call has 77 random octets for a record */
+static bool random_record;                  /* whether this call has 85 random octets for a record */
 
 static void lend_link(bool opens)
 {
@@ -144,7 +145,7 @@ static void ground_numbers(uint32_t *n)
     default: n[ADSC_G_WHAT] = one_in(8) ? chance(128) : chance(32) * ADSC_HAS_WEATHER;
     }
     n[ADSC_G_SCALE] = chance(2);
-    n[ADSC_G_INTERVAL] = one_in(3) ? 5 : 1 + chance(59);
+    n[ADSC_G_INTERVAL] = one_in(3) ? 5 : 1 + chance(n[ADSC_G_SCALE] == ADSC_MINUTES ? 120 : 59);
     for (int i = ADSC_G_ADDRESS; i <= ADSC_G_WEATHER; i++)
         n[i] = 1 + chance(255);
     if (one_in(8))
@@ -420,6 +421,36 @@ static void check_answer(enum which f)
         must(adsc_answer_sent_octets(answer.at)[i] == 0, f, "an octet after the PDU");
 }
 
+/* As many seconds as a timer may have left, and has when it starts. */
+static uint32_t most_left(size_t timer)
+{
+    return adsc_link_setting(link_.at, timer) + (timer == ADSC_PC2 ? adsc_link_force(link_.at) : 0);
+}
+
+/* The intervals that PC's state has, and seconds left that fit. */
+static void check_seconds(enum which f)
+{
+    uint8_t pc = link_.at[ADSC_LINK_PC];
+    uint32_t asked = adsc_link_asked(link_.at), force = adsc_link_force(link_.at);
+    must((asked > 0) == (pc == ADSC_PC_START_PENDING || pc == ADSC_PC_PENDING) && asked <= ADSC_INTERVAL_MOST, f, "state %d, asked for %" PRIu32 " s", pc, asked);
+    must((force > 0) == (pc >= ADSC_PC_PENDING) && force <= ADSC_INTERVAL_MOST, f, "state %d, %" PRIu32 " s in force", pc, force);
+    for (size_t t = 0; t < ADSC_TIMERS; t++)
+        must(adsc_link_left(link_.at, t) <= most_left(t), f, "timer %d: %" PRIu32 " s left", (int)t, adsc_link_left(link_.at, t));
+}
+
+/* What was asked for, and what a start loads. */
+static void check_started(enum which f)
+{
+    const uint32_t *n = words(&numbers);
+    if (f == REQUEST && numbers.length > ADSC_G_INTERVAL && n[ADSC_G_KIND] == ADSC_PERIODIC_CONTRACT)
+        must(adsc_link_asked(link_.at) == n[ADSC_G_INTERVAL] * (n[ADSC_G_SCALE] == ADSC_MINUTES ? 60 : 1), f, "another interval");
+    for (size_t i = 0; i < adsc_answer_actions(answer.at); i++) {
+        int t = adsc_answer_action(answer.at, i) - ADSC_START_TIMER;
+        must(t < 0 || adsc_link_left(link_.at, (size_t)t) == most_left((size_t)t), f, "timer %d starts with other seconds", t);
+        must(t != ADSC_PC2 || adsc_link_due(link_.at) == (int32_t)adsc_link_force(link_.at), f, "a report due in %" PRId32 " s", adsc_link_due(link_.at));
+    }
+}
+
 /* No time passes: the next call takes the record, and says nothing. */
 static void check_record(enum which f)
 {
@@ -468,6 +499,8 @@ static uint8_t spoilt(enum which f, uint8_t result)
         b->window[b->at == b->window ? b->window_octets - 1 : 0] ^= 1;
     if (strcmp(spoil, "record") == 0 && result == ADSC_OK && b == &link_)
         b->at[ADSC_LINK_LI] = 4;
+    if (strcmp(spoil, "interval") == 0 && result == ADSC_OK && b == &link_ && b->at[ADSC_LINK_PC] != ADSC_PC_IDLE)
+        b->at[ADSC_LINK_FORCE + 3] ^= 1;
     if (strcmp(spoil, "result") == 0 && result == ADSC_NO_ROOM)
         return ADSC_SCRIPT_LINE;
     if (strcmp(spoil, "room") == 0 && result == ADSC_OK)
@@ -502,10 +535,14 @@ static void one_call(void)
         return;
     }
     check_accepted(f);
-    if (f > OPEN && f <= DOWN)
+    if (f > OPEN && f <= DOWN) {
         check_answer(f);
-    if (f <= DOWN)
+        check_started(f);
+    }
+    if (f <= DOWN) {
+        check_seconds(f);
         check_record(f);
+    }
     if (f == READ_AIR || f == READ_GROUND)
         check_read(f);
     if (f >= WRITE_AIR)
@@ -528,7 +565,7 @@ static void tell(void)
         for (const uint8_t *r = functions[f].refusals; r < functions[f].refusals + MANY && *r; r++)
             must(met[f][*r] > 0, f, "never refused with %d", *r);
     }
-    printf("seed %" PRIu64 ", calls %" PRIu64 ", accepted %" PRIu64 ", faults 0; on records of 77 random octets %" PRIu64 ", each 29\n",
+    printf("seed %" PRIu64 ", calls %" PRIu64 ", accepted %" PRIu64 ", faults 0; on records of 85 random octets %" PRIu64 ", each 29\n",
            seed, made, accepted, scattered);
 }
 
@@ -536,7 +573,7 @@ int main(int n, char **words)
 {
     struct lent *all[] = {&settings, &link_, &answer, &octets, &numbers, &list, &out, &written};
     if (n < 3) {
-        fprintf(stderr, "host_any SEED CALLS [octet|guard|record|result|room|past]\n");
+        fprintf(stderr, "host_any SEED CALLS [octet|guard|record|interval|result|room|past]\n");
         return 2;
     }
     seed = strtoull(words[1], NULL, 10);

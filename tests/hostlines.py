@@ -3,6 +3,8 @@
     writing(rng, count) -> lines, what they met        records(rng, count) -> lines, what they met
 
 What is met is a Counter of names; WRITING_DUE and RECORDS_DUE say which names have to be in it.
+
+    moved(line, answer) -> the names of what a call made of the intervals, for the same Counter
 """
 
 import collections
@@ -10,7 +12,7 @@ import itertools
 
 import hostmodel
 import linkmodel
-from hostmodel import AIR, CALLS, GROUND, STATES, Calling, Record, grounds, link_of, spelt, taken_apart, written
+from hostmodel import AIR, CALLS, GROUND, INTERVAL_MOST, INTERVALS, LINK_OCTETS, STATES, Calling, Record, grounds, link_of, spelt, taken_apart, written
 from linkscripts import Pool
 from percoder import RANGES
 
@@ -287,9 +289,25 @@ def writing(rng, count):
 SETTINGS = (0, 1, 86400, 86401)
 EDGES = ('0', '1', 'setting', 'setting + 1', '86400 of 86400', '86401 of 86400')
 TIMERS = [timer for timer, _, _ in linkmodel.RULES.watch]
+PC2, PC, EM = TIMERS.index('PC2'), list(STATES).index('PC'), list(STATES).index('EM')
+# PC2's seconds left, where `both` is interval in force and setting; seconds of an interval; how many octets are no record.
+GRACES = ('interval', 'interval + 1', 'both', 'both + 1', '93600 of 7200 + 86400', '93601 of 7200 + 86400')
+SECONDS = (0, 1, INTERVAL_MOST, INTERVAL_MOST + 1, TOP - 1)
+SIZES = (0, 76, 77, 78, 84, 86, 170)
+BRINGING = ('start_confirm', 'data', 'air_abort')
+# Requests as numbers, with the seconds that are asked for.
+WISHES = {1: (6, 0, 0, 1), 59: (6, 0, 0, 59), 60: (6, 0, 1, 1), 300: (6, 0, 1, 5), 7200: (6, 0, 1, 120)}
+ASKING = {'req/periodic-contract': list(WISHES.values()), 'req/cancel-contract/periodic': [(1, 1)]}
+CANCEL_ALL = (0,)
+# What becomes of the intervals: PC's state before and after a call, and which is in force then.
+FORCES = NONE, THE_ASKED, THE_OLD = ('none', 'the asked one', 'the old one')
+MOVES = [('IDLE', 'START-PENDING', NONE), ('START-PENDING', 'START-PENDING', NONE), ('START-PENDING', 'ACTIVE', THE_ASKED), ('START-PENDING', 'IDLE', NONE),
+         ('PENDING', 'PENDING', THE_OLD), ('PENDING', 'ACTIVE', THE_ASKED), ('PENDING', 'ACTIVE', THE_OLD), ('PENDING', 'IDLE', NONE),
+         ('ACTIVE', 'ACTIVE', THE_OLD), ('ACTIVE', 'PENDING', THE_OLD), ('ACTIVE', 'CANCEL', THE_OLD), ('ACTIVE', 'IDLE', NONE),
+         ('CANCEL', 'CANCEL', THE_OLD), ('CANCEL', 'IDLE', NONE)]
 MEETINGS = [(29, 4), (29, 1), (29, 2), (29, 5), (29, 10), (29, 15), (29, 6),
             (4, 6), (1, 5), (1, 10), (1, 15), (1, 6), (2, 6), (5, 6), (10, 6), (15, 6)]
-GROUNDS = ('octets', 'setting', 'state', 'running', 'left', 'module')
+GROUNDS = ('octets', 'setting', 'state', 'running', 'left', 'module', 'missing', 'foreign', 'over')
 
 
 class Records:
@@ -305,14 +323,32 @@ class Records:
         if STATES['LI'][states[4]] in ('IDLE', 'END'):
             states[:4] = [0] * 4
         settings = [rng.choice((1, 2, 60, 86399, 86400, rng.randint(1, 86400))) for _ in TIMERS]
-        return self.fitted(Record(settings, [0] * 9, states))
+        return self.fitted(Record(settings, [0] * 9, states, [0] * 2))
 
     def fitted(self, record):
-        """With seconds left where a timer runs by the watch table."""
+        """With the intervals that PC's state has, and seconds left where a timer runs by the watch table."""
+        rng, pc = self.rng, STATES['PC'][record.states[PC]]
+        most = INTERVAL_MOST
+        intervals = [rng.choice((1, 60, 300, most - 1, most, rng.randint(1, most))) if pc in states else 0 for states in INTERVALS.values()]
+        return self.timed(record._replace(intervals=intervals))
+
+    def timed(self, record):
         watched = link_of(record).watched()
-        left = [self.rng.choice((1, setting, self.rng.randint(1, setting))) if timer in watched else 0
-                for timer, setting in zip(TIMERS, record.settings)]
-        return Record(record.settings, left, record.states)
+        most = list(record.settings)
+        most[PC2] += min(record.intervals[1], INTERVAL_MOST)
+        left = [self.rng.choice((1, setting, most, self.rng.randint(1, most))) if timer in watched else 0
+                for timer, setting, most in zip(TIMERS, record.settings, most)]
+        return record._replace(left=left)
+
+    def with_pc(self, state, li=None, em=None):
+        """PC at a state, EM at one that is IDLE or is not. The two intervals differ."""
+        record = self.good(li or self.rng.choice(('START', 'ACTIVE')))
+        record.states[PC] = STATES['PC'].index(state)
+        record.states[EM] = record.states[EM] if em is None else self.rng.randint(1, 2) * em
+        while True:
+            record = self.fitted(record)
+            if record.intervals[0] != record.intervals[1] or not any(record.intervals):
+                return record
 
     def with_timer(self, place, runs):
         while True:
@@ -338,6 +374,18 @@ class Records:
                     seconds = {'0': 0, '1': 1, 'setting': setting, 'setting + 1': setting + 1}
                     record.left[place] = seconds.get(edge) if edge in seconds else int(edge[:5])
                     yield f'{timer} {how}: {edge} left', spelt(record)
+        for edge in GRACES:
+            record = self.with_timer(PC2, True)
+            if edge.endswith('of 7200 + 86400'):
+                record.settings[PC2], record.intervals[1] = 86400, INTERVAL_MOST
+            interval, both = record.intervals[1], record.intervals[1] + record.settings[PC2]
+            seconds = {'interval': interval, 'interval + 1': interval + 1, 'both': both, 'both + 1': both + 1}
+            record.left[PC2] = seconds.get(edge) or int(edge[:5])
+            yield f'PC2: {edge} left', spelt(record)
+        for (place, interval), state, seconds in itertools.product(enumerate(INTERVALS), STATES['PC'], SECONDS):
+            record = self.with_pc(state)
+            record.intervals[place] = seconds
+            yield f'PC {state}: {interval} {seconds}', spelt(self.timed(record))
         for place, (module, names) in enumerate(STATES.items()):
             for state in (len(names), len(names) + 1, 255):
                 record = self.good()
@@ -357,19 +405,19 @@ class Records:
             record = self.good(li)
             record.states[:4] = [0] * 4
             yield f'{li}: all IDLE', spelt(self.fitted(record))
-        for size, li in itertools.product((0, 1, 76, 78, 154), STATES['LI']):
+        for size, li in itertools.product(SIZES, ('IDLE', 'ACTIVE')):
             yield f'{size} octets', (spelt(self.good(li)) * 2)[:size]
         yield 'good', spelt(self.good())
 
     # Calls
 
     def seconds(self, octets):
-        near = [left + step for left in taken_apart(octets).left if left for step in (-1, 0, 1)] if len(octets) == 77 else []
+        near = [left + step for left in taken_apart(octets).left if left for step in (-1, 0, 1)] if len(octets) == LINK_OCTETS else []
         return self.rng.choice((0, 1, 86400, 86401, TOP - 1, *near, *near)) % TOP
 
     def rows(self, record, asked):
         """The events that the modules' states have a row for."""
-        link = link_of(taken_apart(record)) if len(record) == 77 else None
+        link = link_of(taken_apart(record)) if len(record) == LINK_OCTETS else None
         return [event for module, state, event in linkmodel.RULES.rows
                 if link and link.state[module] == state and event.startswith('req/') == asked]
 
@@ -392,11 +440,12 @@ class Records:
         event = rng.choice(rows if rows and rng.random() < 0.6 else linkmodel.DOWNLINK)
         return rng.choice(self.pool.bad['air'] if rng.random() < 0.1 else self.pool.of[event])
 
-    def make(self, word, name, record):
-        rng = self.rng
-        numbers = [self.seconds(record)] if word == 'elapse' else self.request(record) if word == 'request' else []
-        octets = self.octets(record) if word in ('start_confirm', 'data', 'air_abort') else b''
-        out = rng.randbytes(rng.choice((22, 22, 22, 22, 23, 40, 21, 0)))
+    def make(self, word, name, record, octets=None, numbers=None, room=(22, 22, 22, 22, 23, 40, 21, 0)):
+        if numbers is None:
+            numbers = [self.seconds(record)] if word == 'elapse' else self.request(record) if word == 'request' else []
+        if octets is None:
+            octets = self.octets(record) if word in BRINGING else b''
+        out = self.rng.randbytes(self.rng.choice(room))
         refused = Calling(word, record, octets, out, numbers, hostmodel.RULES).refusals()
         bad = grounds(record)
         self.met[name] += 1
@@ -404,6 +453,22 @@ class Records:
         self.met.update(f'{refused[0]} before {other}' for other in refused[1:])
         self.met[f'{word} {"refused" if refused else "accepted"}'] += 1
         self.lines.append(line_of(word, record, octets, out, numbers))
+
+    # What becomes of the intervals, in an emergency and without one: each row of PC, and each way to IDLE that is none.
+
+    def contract(self):
+        for (state, event), em in itertools.product([row[1:] for row in linkmodel.RULES.rows if row[0] == 'PC'], (False, True)):
+            record = spelt(self.with_pc(state, 'ACTIVE', em))
+            if event in ASKING:
+                for numbers in ASKING[event]:
+                    self.make('request', event, record, numbers=numbers, room=(22,))
+            else:
+                self.make('data', event, record, self.rng.choice(self.pool.of[event]), room=(22,))
+        for state, word, em in itertools.product(STATES['PC'][1:], CALLS, (False, True)):
+            record = self.with_pc(state, 'START' if word.startswith('start') else 'ACTIVE', em)
+            numbers = {'elapse': [min(left for left in record.left if left)], 'request': CANCEL_ALL}.get(word, [])
+            if word != 'end_confirm':
+                self.make(word, 'to IDLE', spelt(record), self.rng.choice(self.pool.bad['air']) if word in BRINGING else b'', numbers, (22,))
 
     def open(self):
         rng = self.rng
@@ -413,7 +478,7 @@ class Records:
             numbers[rng.randrange(9)] = rng.choice((0, 1, 86400, 86401, TOP - 1))
         elif draw < 0.6:
             numbers = (numbers * 2)[:rng.choice((0, 8, 10))]
-        link = rng.randbytes(rng.choice((77, 77, 77, 76, 78, 0)))
+        link = rng.randbytes(rng.choice((LINK_OCTETS,) * 4 + SIZES))
         self.lines.append(line_of('open', link, b'', rng.randbytes(rng.choice((0, 22))), numbers))
         self.met['open'] += 1
 
@@ -422,6 +487,7 @@ class Records:
             for name, record in self.steps():
                 for word in CALLS:
                     self.make(word, name, record)
+            self.contract()
             for _ in range(200):
                 self.make(self.rng.choice(list(CALLS)), 'good', spelt(self.good()))
                 self.make('request', 'good', spelt(self.good(self.rng.choice(('IDLE', 'ACTIVE', 'ACTIVE')))))
@@ -434,13 +500,31 @@ def records(rng, count):
     return Records(rng).all(count)
 
 
+def moved(line, answer):
+    """The names of what an accepted call made of the intervals."""
+    if not answer.startswith('0 ') or line.split(b' ')[0].decode() not in CALLS:
+        return
+    before, after = (taken_apart(bytes.fromhex(link)) for link in (line.decode().split(' ')[1], answer.split(' ')[2]))
+    was, now = (STATES['PC'][record.states[PC]] for record in (before, after))
+    (asked, old), (wish, force) = before.intervals, after.intervals
+    if was != now:
+        yield f'{wish} s asked for'
+    for name, seconds in zip(FORCES, (0, asked, old)):
+        if force == seconds and (name == NONE) == (seconds == 0):
+            yield f'{was} to {now}: {name} in force' + (' in an emergency' if before.states[EM] else '')
+
+
 # ---- what has to be met
 
 RECORDS_DUE = ([f'{timer} {how}: setting {setting}' for timer in TIMERS for how in ('runs', 'rests') for setting in SETTINGS]
                + [f'{timer} {how}: {edge} left' for timer in TIMERS for how in ('runs', 'rests') for edge in EDGES]
+               + [f'PC2: {edge} left' for edge in GRACES]
+               + [f'PC {state}: {interval} {seconds}' for state in STATES['PC'] for interval in INTERVALS for seconds in SECONDS]
+               + [f'{seconds} s asked for' for seconds in WISHES]
+               + [f'{was} to {now}: {force} in force{where}' for was, now, force in MOVES for where in ('', ' in an emergency')]
                + [f'{module}: no state {over}' for module in STATES for over in (0, 1, 255)]
                + [f'{li}: {module} {state}' for li in ('IDLE', 'END') for module in linkmodel.MODULES for state in STATES[module][1:]]
-               + [f'{li}: all IDLE' for li in STATES['LI']] + [f'{size} octets' for size in (0, 76, 78)]
+               + [f'{li}: all IDLE' for li in STATES['LI']] + [f'{size} octets' for size in SIZES]
                + [f'29 for {ground} alone' for ground in GROUNDS] + [f'{first} before {other}' for first, other in MEETINGS]
                + [f'{word} {how}' for word in CALLS for how in ('accepted', 'refused')] + ['open'])
 WRITING_DUE = ([f'{place} {number}' for place in hostmodel.SIGNED for number in signed_edges(place)]

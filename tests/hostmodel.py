@@ -1,4 +1,4 @@
-"""A model of what include/adsc.h declares, on the lent buffers of a host, written from that header and page 01 alone.
+"""A model of what include/adsc.h declares, on the lent buffers of a host, written from that header and pages 01 and 02 alone.
 
 It shares nothing with the box it is compared with: PDUs are those of percoder.py, the link is that of linkmodel.py.
 
@@ -26,7 +26,7 @@ AIR = ('kind', 'what', 'detail', 'count', 'elements', 'south', 'latitude', 'lati
        'units', 'avoidance', 'address', 'ground-parts', 'track', 'ground-speed', 'ground-rate', 'air-parts', 'heading', 'air-speed', 'mach', 'ias',
        'air-rate', 'weather-parts', 'wind-speed', 'wind-direction', 'temperature', 'turbulence')
 SIGNED = ('level', 'ground-speed', 'ground-rate', 'air-rate', 'temperature')     # "in two's complement"
-LINK_OCTETS, ANSWER_OCTETS, TIMERS = 77, 22, 9
+LINK_OCTETS, ANSWER_OCTETS, TIMERS = 85, 22, 9
 
 # The states of a record, by their numbers (enum adsc_dc_state and the four below it).
 STATES = {
@@ -36,6 +36,10 @@ STATES = {
     'EM': ('IDLE', 'ACTIVE', 'MODIFY'),
     'LI': ('IDLE', 'START', 'ACTIVE', 'END'),
 }
+
+# The intervals of a record, and the states of PC that have them (enum adsc_link_place); elsewhere "0 .. : none".
+INTERVALS = {'asked': ('START-PENDING', 'PENDING'), 'force': ('PENDING', 'ACTIVE', 'CANCEL')}
+INTERVAL_MOST = 7200
 
 # enum adsc_action
 ACTIONS = {'start-req': 1, 'data-req': 2, 'end-req': 3, 'abort-req': 4, 'ind': 5, 'ind abort': 6, 'ind peer-abort': 7, 'late': 8, 'stop': 16,
@@ -56,10 +60,17 @@ ORDER = ('bad_record', 'long_elapse', 'not_listed', 'bad_fields', 'no_room')
 @dataclasses.dataclass(frozen=True)
 class Rules:
     """What a test of a test alters. 29: "link record: running timers not those of the watch table, seconds left not 1..setting, a setting
-    not 1..86,400, or LI in IDLE or END with a module not IDLE"; "numbers that are no states; not of 77 octets" (adsc.h)."""
+    not 1..86,400, or LI in IDLE or END with a module not IDLE" (01); "no more than interval plus grace" for PC2, "an interval missing from its
+    state, foreign to it, or over 7,200" (02, L2); "numbers that are no states; not of 85 octets" (adsc.h)."""
     settings: tuple = (1, 86400)
     left: tuple = (1, 0)                # from so many to so many more than the setting
+    grace: callable = lambda setting, asked, force: force + setting     # what stands for the setting of PC2
     resting: int = 0                    # seconds left where a timer does not run
+    wanted: tuple = tuple(INTERVALS.values())       # at these states an interval of 0 is missing,
+    allowed: tuple = tuple(INTERVALS.values())      # at others than these one above 0 is foreign
+    longest: tuple = (INTERVAL_MOST,) * len(INTERVALS)
+    places: tuple = ((77, 'big'), (81, 'big'))
+    kept: callable = lambda before, after: after    # the intervals that a call writes back
     ended: tuple = ('IDLE', 'END')      # where every module is IDLE
     states: tuple = tuple(len(names) for names in STATES.values())
     sizes: tuple = (LINK_OCTETS,)
@@ -179,7 +190,7 @@ def write(family, value, link, out, rules):
 
 # ---- the link record
 
-Record = namedtuple('Record', 'settings left states')
+Record = namedtuple('Record', 'settings left states intervals')     # the last in the order of INTERVALS
 
 
 def numbers_of(octets):
@@ -187,12 +198,15 @@ def numbers_of(octets):
     return [int.from_bytes(octets[place:place + 4], 'big') for place in range(0, len(octets), 4)]
 
 
-def taken_apart(octets):
-    return Record(numbers_of(octets[:36]), numbers_of(octets[36:72]), list(octets[72:77]))
+def taken_apart(octets, rules=RULES):
+    intervals = [int.from_bytes(octets[place:place + 4], order) for place, order in rules.places]
+    return Record(numbers_of(octets[:36]), numbers_of(octets[36:72]), list(octets[72:77]), intervals)
 
 
-def spelt(record):
-    return b''.join(number.to_bytes(4, 'big') for number in record.settings + record.left) + bytes(record.states)
+def spelt(record, rules=RULES):
+    intervals = sorted((place, number.to_bytes(4, order)) for number, (place, order) in zip(record.intervals, rules.places))
+    return b''.join([*(number.to_bytes(4, 'big') for number in record.settings + record.left), bytes(record.states),
+                     *(octets for _, octets in intervals)])
 
 
 def link_of(record, rules=linkmodel.RULES):
@@ -204,6 +218,7 @@ def link_of(record, rules=linkmodel.RULES):
     link.li = states.pop('LI')
     link.state = states
     link.left = {timer: left for (timer, _, _), left in zip(rules.watch, record.left) if left}
+    link.asked, link.force = record.intervals
     return link
 
 
@@ -211,14 +226,14 @@ def record_of(link):
     timers = [timer for timer, _, _ in linkmodel.RULES.watch]
     states = {**link.state, 'LI': link.li}
     return Record([link.settings[timer] for timer in timers], [link.left.get(timer, 0) for timer in timers],
-                  [names.index(states[module]) for module, names in STATES.items()])
+                  [names.index(states[module]) for module, names in STATES.items()], [link.asked, link.force])
 
 
 def grounds(octets, rules=RULES):
     """The grounds on which 29 refuses a record."""
     if len(octets) not in rules.sizes:
         return {'octets'}
-    record, found = taken_apart(octets.ljust(LINK_OCTETS, b'\0')), set()
+    record, found = taken_apart(octets.ljust(LINK_OCTETS, b'\0'), rules), set()
     if not all(rules.settings[0] <= setting <= rules.settings[1] for setting in record.settings):
         found.add('setting')
     if any(state >= most for state, most in zip(record.states, rules.states)):
@@ -226,12 +241,18 @@ def grounds(octets, rules=RULES):
     link = link_of(record, dataclasses.replace(linkmodel.RULES, watch=rules.watch))
     if link is None:
         return found
+    pc, watched = link.state['PC'], link.watched()
+    for seconds, wanted, allowed, longest in zip(record.intervals, rules.wanted, rules.allowed, rules.longest):
+        found |= {'missing'} if seconds == 0 and pc in wanted else set()
+        found |= {'foreign'} if seconds > 0 and pc not in allowed else set()
+        found |= {'over'} if seconds > longest else set()
     for (timer, _, _), setting, left in zip(rules.watch, record.settings, record.left):
-        if timer not in link.watched():
+        most = rules.grace(setting, *record.intervals) if timer == 'PC2' else setting
+        if timer not in watched:
             found |= {'running'} if left > rules.resting else set()
         elif left == 0 and rules.left[0]:
             found.add('running')        # it does not run, and should
-        elif not rules.left[0] <= left <= setting + rules.left[1]:
+        elif not rules.left[0] <= left <= most + rules.left[1]:
             found.add('left')
     if link.li in rules.ended and not link.all_idle():
         found.add('module')
@@ -262,7 +283,8 @@ class Calling:
     def __init__(self, word, record, octets, out, numbers, rules):
         self.record, self.octets, self.out, self.rules = record, octets, out, rules
         self.box = linkmodel.Box()
-        self.box.link = link_of(taken_apart(record.ljust(LINK_OCTETS, b'\0')))
+        self.before = taken_apart(record.ljust(LINK_OCTETS, b'\0'), rules)
+        self.box.link = link_of(self.before)
         self.word = CALLS[word]
         self.seconds = numbers[0] if numbers else 0
         self.event, self.kind = None, self.word
@@ -301,17 +323,19 @@ class Calling:
             return After(refused[0], BEFORE, self.rules.left_as('link', self.record), self.rules.left_as('out', self.out))
         link = self.box.link
         entries = link.elapse(self.seconds) if self.word == 'elapse' else link.call(self.kind, self.octets)
-        return After(0, BEFORE, spelt(record_of(link)), answer_octets(entries) + self.out[ANSWER_OCTETS:])
+        after = record_of(link)
+        after = after._replace(intervals=self.rules.kept(self.before.intervals, after.intervals))
+        return After(0, BEFORE, spelt(after, self.rules), answer_octets(entries) + self.out[ANSWER_OCTETS:])
 
 
 def opened(link, out, numbers):
-    """Refuses 3, and then 6, "a record that is not of 77 octets"."""
+    """Refuses 3, and then 6, "a record that is not of 85 octets"."""
     limits = linkmodel.LIMITS
     if len(numbers) != TIMERS or not all(limits['least setting'] <= number <= limits['setting'] for number in numbers):
         return After(3, BEFORE, link, out)
     if len(link) != LINK_OCTETS:
         return After(6, BEFORE, link, out)
-    return After(0, BEFORE, spelt(Record(numbers, [0] * TIMERS, [0] * len(STATES))), out)
+    return After(0, BEFORE, spelt(Record(numbers, [0] * TIMERS, [0] * len(STATES), [0] * len(INTERVALS))), out)
 
 
 # ---- lines

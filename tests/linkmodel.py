@@ -1,8 +1,8 @@
-"""A model of the ground side of one link, written from page 01 alone.
+"""A model of the ground side of one link, written from page 01 alone, and its intervals from L2 of 02.
 
-It shares nothing with the box it is compared with but the page, and reads PDUs with percoder.py.
-First the tables of 01, as data in the page's order with its words above each group; below them
-the model that plays them.
+It shares nothing with the box it is compared with but these pages, and reads PDUs with percoder.py.
+First the tables of 01, as data in the page's order with its words above each group, and those of
+L2; below them the model that plays them.
 
     linkmodel.py < script > trace
     trace(script octets) -> trace octets
@@ -157,6 +157,38 @@ WATCH = [
     ('EM2', ('EM-MODIFY',), None),
 ]
 
+# Intervals (02, L2), in whole seconds, 0 for none. "The record gains the interval asked for and the interval in force".
+# PC's states, event, what is done in turn, all of it before PC2 is loaded.
+INTERVAL_ROWS = [
+    # A periodic request asks for its interval.
+    ('IDLE ACTIVE', 'req/periodic-contract', 'ask'),
+    # "the asked one comes into force on entering ACTIVE by a report with ack, a positive ack or a noncompliance, and a
+    # negative ack leaves the old one. Any answer clears the asked one". A plain report in PENDING is no answer.
+    ('START-PENDING PENDING', 'periodic-report+ack', 'asked into force, clear asked'),
+    ('START-PENDING PENDING', 'positive-ack/periodic', 'asked into force, clear asked'),
+    ('START-PENDING PENDING', 'noncompliance/periodic', 'asked into force, clear asked'),
+    ('START-PENDING PENDING', 'negative-ack/periodic', 'clear asked'),
+]
+
+# "PC going IDLE both."
+PC_IDLE = 'clear asked, clear force'
+
+# "29 also covers an interval missing from its state, foreign to it, or over 7,200": the states of PC that have one.
+INTERVAL_STATES = {'asked': ('START-PENDING', 'PENDING'), 'force': ('ACTIVE', 'PENDING', 'CANCEL')}
+LONGEST = 7200
+
+# "PC2 must run for the interval in force plus its setting, which becomes a grace". For the rest 01: "A start loads the
+# timer's setting." Refusal 29 reads "no more than interval plus grace" for PC2.
+LOADS = {timer: ('setting', 'force') if timer == 'PC2' else ('setting',) for timer, _, _ in WATCH}
+
+# "seconds 1..59 (0) or minutes 1..120 (1)", and 5 minutes where the contract leaves it out, as percoder.py reads it.
+UNITS = {'seconds': 1, 'minutes': 60}
+
+
+def seconds(unit, number):
+    return UNITS[unit] * number
+
+
 # Settings are 1..86,400, an elapse is at most 86,400, a number fits 32 bits, a line has at most 4,096 octets.
 LIMITS = {'least setting': 1, 'setting': 86400, 'elapse': 86400, 'number': 2 ** 32 - 1, 'line': 4096}
 
@@ -179,6 +211,13 @@ class Rules:
     abort: tuple = steps(ABORT)
     reasons: dict = dataclasses.field(default_factory=lambda: dict(REASONS))
     watch: tuple = tuple(WATCH)
+    intervals: dict = dataclasses.field(default_factory=lambda: {
+        (state, event): steps(text) for states, event, text in INTERVAL_ROWS for state in states.split()})
+    pc_idle: tuple = steps(PC_IDLE)
+    interval_states: dict = dataclasses.field(default_factory=lambda: dict(INTERVAL_STATES))
+    longest: int = LONGEST
+    loads: dict = dataclasses.field(default_factory=lambda: dict(LOADS))
+    seconds: callable = seconds
     limits: dict = dataclasses.field(default_factory=lambda: dict(LIMITS))
     order: tuple = ORDER
     asked: tuple = ASKED
@@ -240,7 +279,7 @@ STEP = re.compile('(start|stop) (...)(?: (if it runs|without an emergency|if PC 
 
 
 class Link:
-    """LI, the modules, and the seconds left of the timers that run."""
+    """LI, the modules, the seconds left of the timers that run, the interval asked for and the one in force."""
 
     def __init__(self, rules, settings):
         self.rules = rules
@@ -248,6 +287,7 @@ class Link:
         self.li = 'IDLE'
         self.state = dict.fromkeys(MODULES, 'IDLE')
         self.left = {}
+        self.asked = self.force = 0
 
     def emergency(self):
         # "An emergency holds exactly while EM isn't IDLE."
@@ -264,10 +304,29 @@ class Link:
                 return module, row
         return None
 
+    def enter(self, states):
+        """Modules go to states."""
+        self.state = {**self.state, **states}
+        if self.state['PC'] == 'IDLE':
+            self.set_intervals(self.rules.pc_idle, b'')
+
+    def set_intervals(self, todo, octets):
+        for step in todo:
+            if step == 'ask':
+                self.asked = self.rules.seconds(*read('ground', octets)[1]['interval'])
+            elif step == 'asked into force':
+                self.force = self.asked
+            else:
+                setattr(self, step.removeprefix('clear '), 0)
+
     # Entries of an action list
 
+    def loads(self, timer):
+        """The seconds that a start loads: as many as a running timer may have left (29)."""
+        return sum(self.settings[timer] if part == 'setting' else getattr(self, part) for part in self.rules.loads[timer])
+
     def start(self, timer):
-        self.left[timer] = self.settings[timer]     # "A start loads the timer's setting."
+        self.left[timer] = self.loads(timer)
         return [f'start {timer}']
 
     def stop(self, timer):
@@ -297,8 +356,9 @@ class Link:
 
     def play(self, event, octets, send):
         module, (todo, after) = self.row(event)
+        self.set_intervals(self.rules.intervals.get((self.state['PC'], event), ()), octets)
         entries = [entry for step in todo for entry in self.step(step, octets, send)]
-        self.state[module] = after
+        self.enter({module: after})
         return entries
 
     def receive(self, octets):
@@ -333,7 +393,7 @@ class Link:
         if step == 'stops':
             return self.stops()
         if step == 'modules IDLE':
-            self.state = dict.fromkeys(MODULES, 'IDLE')
+            self.enter(dict.fromkeys(MODULES, 'IDLE'))
             return []
         if step == 'ind abort of the PDU':
             return [f'ind abort {self.reason_of(octets)}']
@@ -366,10 +426,16 @@ class Link:
         return {timer for timer, states, also in self.rules.watch
                 if not now.isdisjoint(states) and (also is None or also in now)}
 
+    def fits(self, interval):
+        """Whether PC's state has an interval of its range, or has none and there is none."""
+        has = self.state['PC'] in self.rules.interval_states[interval]
+        return 1 <= getattr(self, interval) <= self.rules.longest if has else getattr(self, interval) == 0
+
     def good(self):
         """The record by refusal 29; calls never lead to a bad one."""
         return (set(self.left) == self.watched()
-                and all(1 <= left <= self.settings[timer] for timer, left in self.left.items())
+                and all(1 <= left <= self.loads(timer) for timer, left in self.left.items())
+                and all(self.fits(interval) for interval in self.rules.interval_states)
                 and (self.li not in ('IDLE', 'END') or self.all_idle()))
 
 
@@ -409,6 +475,11 @@ class Call:
         self.octets = bytes.fromhex(arguments[0]) if arguments and IS_HEX.fullmatch(arguments[0]) else b''
         self.event = request(self.octets) if self.word == 'req' else None
         self.kind = REQUESTS.get(self.event, 'no request') if self.word == 'req' else self.word
+
+
+@functools.lru_cache(maxsize=100000)
+def call_of(line):
+    return Call(line)
 
 
 class Box:
@@ -452,7 +523,7 @@ class Box:
         return self.link.call(call.kind, call.octets)
 
     def answer(self, line):
-        call = Call(line)
+        call = call_of(line)
         for judge in self.rules.order:
             number = getattr(self, judge)(call)
             if number:
@@ -466,8 +537,8 @@ def lines(script):
     return parts if parts[-1] else parts[:-1]
 
 
-def trace(script, rules=RULES, link=Link):
-    box, parts = Box(rules, link), lines(script)
+def trace(script, rules=RULES, link=Link, made=Box):
+    box, parts = made(rules, link), lines(script)
     answers = [f'{place} {box.answer(line)}' for place, line in enumerate(parts, 1)]
     return '\n'.join(['adsc trace 1', *answers, f'end {len(parts)}', '']).encode()
 

@@ -2,22 +2,27 @@
 
     MUTANTS: name -> the trace function of the changed model
 
-Except where the watch table itself is changed, they do not judge records (29): a difference has to
-show in what the box does.
+Except where the watch table itself is changed, or an interval stays where only a record shows it,
+they do not judge records (29): a difference has to show in what the box does.
 """
 
 import dataclasses
 import functools
 import operator
 
-from linkmodel import ASKED, DOWNLINK, LIMITS, MODULES, ORDER, REASONS, RULES, WORDS, Link, trace
+from linkmodel import (ASKED, DOWNLINK, INTERVAL_STATES, LIMITS, MODULES, ORDER, REASONS, RULES, WORDS, Box, Link, call_of,
+                       read, seconds, trace)
 from linkscripts import LI_STATES, STATES
+from percoder import DEFAULTS
 
 BLIND = tuple(judge for judge in ORDER if judge != 'bad_record')
 
 
-def changed(link=Link, **fields):
-    return functools.partial(trace, rules=dataclasses.replace(RULES, **{'order': BLIND, **fields}), link=link)
+def changed(link=Link, made=Box, **fields):
+    return functools.partial(trace, rules=dataclasses.replace(RULES, **{'order': BLIND, **fields}), link=link, made=made)
+
+
+judged = functools.partial(changed, order=ORDER)
 
 
 def without(sequence, place):
@@ -153,15 +158,14 @@ def abort_mutants():
 
 def watch_mutants():
     """Here 29 judges, by the changed table. The order of its timers is that of the settings too."""
-    watched = functools.partial(changed, order=ORDER)
     for place, (timer, states, also) in enumerate(RULES.watch):
         for state in states:
             entry = (timer, tuple(other for other in states if other != state), also)
-            yield f'watch.{timer}.not-{state}', watched(watch=replaced(RULES.watch, place, entry))
+            yield f'watch.{timer}.not-{state}', judged(watch=replaced(RULES.watch, place, entry))
         if also:
-            yield f'watch.{timer}.always', watched(watch=replaced(RULES.watch, place, (timer, states, None)))
+            yield f'watch.{timer}.always', judged(watch=replaced(RULES.watch, place, (timer, states, None)))
         if place + 1 < len(RULES.watch):
-            yield f'watch.{RULES.watch[place + 1][0]}-before-{timer}', watched(watch=swapped(RULES.watch, place))
+            yield f'watch.{RULES.watch[place + 1][0]}-before-{timer}', judged(watch=swapped(RULES.watch, place))
 
 
 class StopsBackwards(Link):
@@ -210,7 +214,7 @@ class LoadsOnce(Link):
     kept = {}
 
     def stop(self, timer):
-        self.kept = {**self.kept, timer: self.left.get(timer, self.settings[timer])}
+        self.kept = {**self.kept, timer: self.left.get(timer, self.loads(timer))}
         return super().stop(timer)
 
     def start(self, timer):
@@ -219,13 +223,17 @@ class LoadsOnce(Link):
         return entries
 
 
-def loading(seconds):
+def loading(timer, more):
+    """A start of one timer loads so many seconds more, but one at least."""
     class Loads(Link):
-        def start(self, timer):
-            entries = super().start(timer)
-            self.left[timer] = seconds(self, timer)
-            return entries
+        def loads(self, started):
+            return max(1, super().loads(started) + more(self)) if started == timer else super().loads(started)
     return Loads
+
+
+class OneSecond(Link):
+    def loads(self, timer):
+        return 1
 
 
 def clock_mutants():
@@ -235,13 +243,204 @@ def clock_mutants():
     yield 'clock.never', changed(expired=lambda left, seconds: False)
     for link in (StopsBackwards, ExpiredNotStopped, NoTime, FirstLoses, FirstJudged, LoadsOnce):
         yield f'clock.{link.__name__}', changed(link)
-    yield 'load.one-second', changed(loading(lambda link, timer: 1))
+    yield 'load.one-second', changed(OneSecond)
     timers = [timer for timer, _, _ in RULES.watch]
     for timer, other in zip(timers, timers[1:] + timers[:1]):
         yield f'load.{timer}-with-{other}', changed(loading(
-            lambda link, started, timer=timer, other=other: link.settings[other if started == timer else started]))
-        yield f'load.{timer}-one-less', changed(loading(
-            lambda link, started, timer=timer: max(1, link.settings[started] - (started == timer))))
+            timer, lambda link, timer=timer, other=other: link.settings[other] - link.settings[timer]))
+        yield f'load.{timer}-one-less', changed(loading(timer, lambda link: -1))
+
+
+# Intervals (02, L2)
+
+def with_intervals(key, *todo):
+    return {**RULES.intervals, key: todo}
+
+
+def interval_row_mutants():
+    """What asks for an interval, brings it into force and clears it. One that is not cleared shows in the record alone."""
+    for (state, event), todo in RULES.intervals.items():
+        for name, steps in altered_steps(todo):
+            cleared = 'clear asked' in steps or 'clear asked' not in todo
+            if cleared or state != 'START-PENDING' or event != 'negative-ack/periodic':     # PC goes IDLE: both are cleared
+                yield f'interval.{state}.{event}.{name}', (changed if cleared else judged)(
+                    intervals=with_intervals((state, event), *steps))
+    yield 'interval.in-force-at-the-request', changed(
+        intervals=with_intervals(('ACTIVE', 'req/periodic-contract'), 'ask', 'asked into force'))
+    yield 'interval.in-force-at-the-first-request', judged(
+        intervals=with_intervals(('IDLE', 'req/periodic-contract'), 'ask', 'asked into force'))
+    yield 'interval.in-force-by-a-refusal', changed(
+        intervals=with_intervals(('PENDING', 'negative-ack/periodic'), 'asked into force', 'clear asked'))
+    yield 'interval.cleared-by-a-refusal', changed(
+        intervals=with_intervals(('PENDING', 'negative-ack/periodic'), 'clear asked', 'clear force'))
+    yield 'interval.cleared-by-a-cancel', judged(
+        intervals=with_intervals(('ACTIVE', 'req/cancel-contract/periodic'), 'clear force'))
+    for what, todo in (('in-force', ('asked into force',)), ('cleared', ('clear asked',)),
+                       ('in-force-and-cleared', ('asked into force', 'clear asked'))):
+        yield f'interval.{what}-by-a-plain-report', changed(
+            intervals=with_intervals(('PENDING', 'periodic-report'), *todo))
+
+
+class Forgets(Link):
+    """Modules go IDLE, and PC's intervals stay."""
+    def link_step(self, step, octets):
+        if step != 'states IDLE':
+            return super().link_step(step, octets)
+        self.state = dict.fromkeys(MODULES, 'IDLE')
+        return []
+
+
+def forgetting(todo):
+    return tuple(step.replace('modules IDLE', 'states IDLE') for step in todo)
+
+
+def interval_idle_mutants():
+    """An interval kept in IDLE: the next contract's takes its place, so the record alone shows it."""
+    for name in INTERVAL_STATES:
+        yield f'interval.{name}-kept-in-IDLE', judged(pc_idle=tuple(step for step in RULES.pc_idle if step != f'clear {name}'))
+    for (li, call), (todo, after) in RULES.li.items():
+        if li != 'END' and forgetting(todo) != todo:
+            yield f'interval.kept-by.{li}.{call}', judged(Forgets, li=with_row(RULES.li, (li, call), (forgetting(todo), after)))
+    yield 'interval.kept-by.abort', judged(Forgets, abort=forgetting(RULES.abort))
+
+
+class NotInEmergency(Link):
+    """An answer during an emergency leaves the old interval in force."""
+    def set_intervals(self, todo, octets):
+        super().set_intervals([step for step in todo if step != 'asked into force' or not self.emergency()], octets)
+
+
+class AtEmergencysEnd(Link):
+    """What is agreed during an emergency comes into force at its end."""
+    def set_intervals(self, todo, octets):
+        if 'asked into force' not in todo or not self.emergency():
+            super().set_intervals(todo, octets)
+
+    def step(self, step, octets, send):
+        if step == 'start PC2 if PC is ACTIVE' and self.asked and self.state['PC'] == 'ACTIVE':
+            super().set_intervals(('asked into force', 'clear asked'), octets)
+        return super().step(step, octets, send)
+
+
+class FromBeforeEmergency(Link):
+    """At an emergency's end PC2 runs for the interval that was in force when the emergency began."""
+    before = 0
+
+    def play(self, event, octets, send):
+        self.before = self.before if self.emergency() else self.force
+        return super().play(event, octets, send)
+
+    def loads(self, timer):
+        stale = timer == 'PC2' and self.emergency() and self.before
+        return self.settings[timer] + self.before if stale else super().loads(timer)
+
+
+class LoadedTooEarly(Link):
+    """PC2 is loaded before a change is in force."""
+    before = 0
+
+    def play(self, event, octets, send):
+        self.before = self.force
+        return super().play(event, octets, send)
+
+    def loads(self, timer):
+        return self.settings[timer] + (self.before or self.force) if timer == 'PC2' else super().loads(timer)
+
+
+class FirstAtReports(Link):
+    """A report starts PC2 with the interval that was agreed first."""
+    first = 0
+
+    def set_intervals(self, todo, octets):
+        super().set_intervals(todo, octets)
+        self.first = self.force if self.state['PC'] == 'START-PENDING' else self.first
+
+    def loads(self, timer):
+        stale = timer == 'PC2' and self.state['PC'] == 'ACTIVE' and not self.emergency()
+        return self.settings[timer] + self.first if stale else super().loads(timer)
+
+
+class ModifyCounts(Link):
+    """The interval of a modify is in force for PC too."""
+    def play(self, event, octets, send):
+        if event == 'req/modify-emergency' and self.force:
+            self.force = self.rules.seconds(*read('ground', octets)[1])
+        return super().play(event, octets, send)
+
+
+class ModifyLoads(Link):
+    """EM1 runs for the interval of the last modify, as PC2 does for its own."""
+    modified = 0
+
+    def play(self, event, octets, send):
+        if event == 'req/modify-emergency':
+            self.modified = self.rules.seconds(*read('ground', octets)[1])
+        return super().play(event, octets, send)
+
+    def loads(self, timer):
+        return super().loads(timer) + (self.modified if timer == 'EM1' else 0)
+
+
+class LoadsADayAtMost(Link):
+    def loads(self, timer):
+        return min(super().loads(timer), LIMITS['setting'])
+
+
+class JudgedByGrace(Link):
+    """29 wants no more than its setting of PC2 too."""
+    def good(self):
+        return super().good() and self.left.get('PC2', 0) <= self.settings['PC2']
+
+
+class RefusedAsks(Box):
+    """A request that is refused while another one has no answer asks for its interval."""
+    def answer(self, line):
+        answer, call = super().answer(line), call_of(line)
+        if answer == 'refused 1' and call.event == 'req/periodic-contract' and self.link.asked:
+            self.link.set_intervals(('ask',), call.octets)
+        return answer
+
+
+ABSENT = DEFAULTS['periodic-contract', 'interval']
+
+# How an interval is counted, in seconds.
+COUNTED = {
+    'minutes-as-seconds': lambda unit, number: number,
+    'seconds-as-minutes': lambda unit, number: 60 * number,
+    'as-sent': lambda unit, number: seconds(unit, number - 1),
+    'one-second-less': lambda unit, number: seconds(unit, number) - 1,
+    'one-second-more': lambda unit, number: seconds(unit, number) + 1,
+    'absent-is-none': lambda *interval: 0 if interval == ABSENT else seconds(*interval),
+    'absent-is-1-minute': lambda *interval: 60 if interval == ABSENT else seconds(*interval),
+    'absent-is-5-seconds': lambda *interval: 5 if interval == ABSENT else seconds(*interval),
+    'an-hour-at-most': lambda *interval: min(3600, seconds(*interval)),
+}
+
+
+def interval_load_mutants():
+    for name, parts in {'setting-alone': ('setting',), 'interval-alone': ('force',), 'asked-one': ('setting', 'asked'),
+                        'setting-twice': ('setting', 'setting', 'force'), 'interval-twice': ('setting', 'force', 'force')}.items():
+        yield f'interval.PC2-loads-{name}', changed(loads={**RULES.loads, 'PC2': parts})
+    for timer in RULES.loads:
+        if timer != 'PC2':
+            yield f'interval.{timer}-loads-it-too', changed(loads={**RULES.loads, timer: ('setting', 'force')})
+    yield 'interval.PC1-loads-the-asked-one', changed(loads={**RULES.loads, 'PC1': ('setting', 'asked')})
+    for name, count in COUNTED.items():
+        yield f'interval.{name}', changed(seconds=count)
+    for link in (NotInEmergency, AtEmergencysEnd, FromBeforeEmergency, LoadedTooEarly, FirstAtReports, ModifyCounts, ModifyLoads,
+                 LoadsADayAtMost):
+        yield f'interval.{link.__name__}', changed(link)
+    yield 'interval.RefusedAsks', changed(made=RefusedAsks)
+
+
+def interval_record_mutants():
+    """Here 29 judges, by a changed table of the states that have an interval, or by another most."""
+    for name, states in INTERVAL_STATES.items():
+        for state in STATES['PC']:
+            yield f'interval.{name}-{"not-" if state in states else ""}in-{state}', judged(
+                interval_states={**INTERVAL_STATES, name: tuple(set(states) ^ {state})})
+    yield 'interval.longest-one-less', judged(longest=RULES.longest - 1)
+    yield 'interval.JudgedByGrace', judged(JudgedByGrace)
 
 
 # Refusals, lines and the trace
@@ -307,5 +506,6 @@ def recounted(script):
     return b'\n'.join([*most, b'end %d' % sum(b' ok' in line for line in most), b''])
 
 
-MUTANTS = dict(mutant for family in (row_mutants, added_mutants, li_mutants, abort_mutants, watch_mutants, clock_mutants,
-                                     refusal_mutants, other_mutants) for mutant in family())
+FAMILIES = (row_mutants, added_mutants, li_mutants, abort_mutants, watch_mutants, clock_mutants, interval_row_mutants,
+            interval_idle_mutants, interval_load_mutants, interval_record_mutants, refusal_mutants, other_mutants)
+MUTANTS = dict(mutant for family in FAMILIES for mutant in family())

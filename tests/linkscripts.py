@@ -8,8 +8,8 @@ import collections
 import functools
 
 from compare_coder import DAMAGES, random_value
-from linkmodel import DOWNLINK, LIMITS, REQUESTS, RULES, Box, Call, downlink, request
-from percoder import write
+from linkmodel import DOWNLINK, LIMITS, REQUESTS, RULES, Box, call_of, downlink, request, seconds
+from percoder import DEFAULTS, write
 
 LI_STATES = ('IDLE', 'START', 'ACTIVE', 'END')
 EVENTS = [*REQUESTS, *DOWNLINK, 'unreadable']
@@ -23,6 +23,26 @@ STATES = {'DC': ('IDLE', 'PENDING', 'ACTIVE'), 'EC': CONTRACT_STATES, 'PC': CONT
 # What stands beside a module's state: PC2 hangs on both PC and EM.
 BESIDE = {'DC': ('',), 'EC': ('',), 'PC': ('EM IDLE', 'EM not IDLE'), 'EM': ('PC ACTIVE', 'PC not ACTIVE')}
 PLACES = [(module, state, beside) for module in STATES for state in STATES[module] for beside in BESIDE[module]]
+
+# Intervals that every run agrees to (02, L2), beside others: the ends of both units and the one that is left out.
+INTERVALS = (('seconds', 1), ('seconds', 59), ('minutes', 1), DEFAULTS['periodic-contract', 'interval'], ('minutes', 120))
+SIZES = [seconds(*interval) for interval in INTERVALS]
+
+ANSWERS = ('periodic-report+ack', 'positive-ack/periodic', 'noncompliance/periodic', 'negative-ack/periodic')
+
+# With a periodic contract in force, what makes each other timer run; a cancel also meets what ends the link.
+BESIDE_PC2 = [
+    ('req/demand-contract',), ('req/demand-contract', 'noncompliance/demand'), ('req/event-contract',),
+    ('req/event-contract', 'positive-ack/event', 'req/cancel-contract/event'), ('req/periodic-contract',),
+    ('req/cancel-contract/periodic',), ('req/cancel-contract/periodic', 'break'), ('emergency',),
+    ('emergency', 'req/modify-emergency')]
+
+# How a timer's end is met: PC2 by the row that started it and by the interval in force, the others with one in force and
+# without; and where time comes to a halt there.
+STARTS = [key for key, (todo, _) in RULES.rows.items() if any(step.startswith('start PC2') for step in todo)]
+ENDS = [*STARTS, *SIZES, 'another interval', *((timer, has) for timer, _, _ in RULES.watch for has in ('interval', 'no interval')
+                                               if timer != 'PC2' and (timer, has) != ('PC3', 'no interval'))]
+EDGES = {-1: 'a second less', 0: 'its end', 1: 'a second more'}
 
 # Kinds of lines, as LI meets them.
 KINDS = ['set in range', 'set out of range', 'req contract', 'req change', 'req cancel-all', 'req no request',
@@ -96,25 +116,52 @@ def kind_of(link, call):
     return call.word
 
 
+def first_end(link):
+    """The timer that ends first, and its seconds left."""
+    return min(link.left.items(), key=lambda entry: entry[1], default=(None, 0))
+
+
 class Coverage:
     def __init__(self):
         self.pairs = collections.Counter()      # (LI state, place, event)
         self.lines = collections.Counter()      # (LI state, kind of line)
         self.joints = collections.Counter()     # the four states together, or END
         self.joint_pairs = collections.Counter()
+        self.ends = collections.Counter()       # (one of ENDS, edge)
+        self.started = None                     # the row that started PC2 last
 
     def note(self, link, line):
-        call = Call(line)
+        call = call_of(line)
         kind = kind_of(link, call)
         self.lines[link.li if link else BEFORE, kind] += 1
         self.joints['END'] += link is not None and link.li == 'END'
+        if kind in ('elapse runs on', 'elapse expires') and link:
+            self.note_end(link, call.numbers[0])
         event = event_of(link, call) if link and kind != 'no call' else None
         if event is None:
             return
+        self.started = next((key for key in STARTS if key == (key[0], link.state[key[0]], event)), self.started)
         for place in places(link):
             self.pairs[link.li, place, event] += 1
         self.joints[joint(link)] += 1
         self.joint_pairs[joint(link), event] += 1
+
+    def ends_of(self, link, timer):
+        if timer == 'PC2':
+            return self.started, link.force if link.force in SIZES else 'another interval'
+        return ((timer, 'interval' if link.force else 'no interval'),)
+
+    def note_end(self, link, seconds):
+        timer, left = first_end(link)
+        if timer and seconds - left in EDGES:
+            self.ends.update((end, EDGES[seconds - left]) for end in self.ends_of(link, timer))
+
+    def rarest_edge(self, link):
+        """The edge that was met least, of the timer that ends first, and how often it was."""
+        ends = self.ends_of(link, first_end(link)[0])
+        met = {edge: sorted(self.ends[end, name] for end in ends) for edge, name in EDGES.items()}
+        edge = min(met, key=met.get)
+        return edge, met[edge][0]
 
     def rarity(self, link, event):
         """How often an event met the least of its pairs at the present states."""
@@ -135,6 +182,10 @@ def pairs_due():
     return due, out
 
 
+def ends_due():
+    return [(end, edge) for end in ENDS for edge in EDGES.values()]
+
+
 def lines_due():
     return [(li, kind) for li in (BEFORE, *LI_STATES) for kind in KINDS
             if not any(holds(li, kind) for _, holds in UNREACHABLE_LINES)]
@@ -151,8 +202,13 @@ class Pool:
                 octets = write(family, random_value(rng, family))
                 if len(self.of[name_of(octets)]) < self.EACH:
                     self.of[name_of(octets)].append(octets)
+        intervals = [*INTERVALS, ('seconds', rng.randint(2, 58)), ('minutes', rng.randint(2, 119))]
+        self.of['req/periodic-contract'] += [self.periodic(rng, interval) for interval in intervals for _ in range(4)]
         self.bad = {family: self.unreadable(rng, family, name_of)
                     for family, name_of in (('air', downlink), ('ground', request))}
+
+    def periodic(self, rng, interval):
+        return write('ground', ('periodic-contract', {**random_value(rng, 'periodic-contract'), 'interval': interval}))
 
     def unreadable(self, rng, family, name_of):
         found = [b'', bytes(129), b'\x80', b'\x99' * 5, write('air', ('cancel-emergency', None)) + b'\0']
@@ -191,6 +247,7 @@ class Maker:
         rng, made = self.rng, []
         self.box = Box()
         self.rough = rng.choice((0.05, 0.1, 0.25))  # how often a line may end the link
+        self.story = [] if rng.random() < 0.15 else None    # what comes next, where PC2 is watched to its end
         if rng.random() < 0.02:
             size = rng.randint(0, 3)
         for _ in range(size):
@@ -204,6 +261,10 @@ class Maker:
         link, draw = self.box.link, self.rng.random()
         if link is None:
             return self.opening(draw)
+        if self.story is not None:
+            return self.telling(link, draw)
+        if link.left and draw < 0.3 and not self.coverage.rarest_edge(link)[1]:     # an end not met yet
+            return b'elapse %d' % self.about_end(link)
         if self.rng.random() < self.rough:
             return self.breaking(link, draw)
         if draw < 0.62:
@@ -226,7 +287,10 @@ class Maker:
     def settings(self):
         high = self.rng.choice((3, 6, 12, 12, 60, 60, MOST))
         low = self.rng.choice((1, 2, high // 2 + 1))
-        return [self.rng.choice((self.rng.randint(low, high), self.rng.randint(low, high), high)) for _ in range(9)]
+        numbers = [self.rng.choice((self.rng.randint(low, high), self.rng.randint(low, high), high)) for _ in range(9)]
+        if self.story is not None and self.rng.random() < 0.2:
+            numbers[5] = MOST       # PC2 then runs for longer than an elapse may be
+        return numbers
 
     # With a link
 
@@ -247,11 +311,53 @@ class Maker:
             return self.of_kind(self.rng.choice([kind for kind in KINDS if kind.startswith('req ')]))
         return self.of_event(link, self.rarest([event for event in REQUESTS if event != 'req/cancel-all'], link))
 
+    def telling(self, link, draw):
+        """The next line of a story; now and then time goes by."""
+        if draw < 0.1 and link.left:
+            return self.clock(link)
+        if not self.story and link.li == 'END':
+            return self.of_kind('end-cnf')
+        self.story = self.story or self.new_story(link)
+        event = self.story.pop(0)
+        if event == 'break':
+            self.story = []
+            return self.breaking(link, self.rng.choice((0, 1)))
+        if event == 'time':
+            return b'elapse %d' % self.about_end(link) if link.left else self.clock(link)
+        return self.of_event(link, event)
+
+    def new_story(self, link):
+        """A periodic contract is agreed, what follows is met by time or by what ends the link."""
+        rng = self.rng
+        if link.left and 'PC2' not in link.left:
+            return ['req/cancel-all']
+        first = [] if link.left else ['req/periodic-contract', rng.choice(ANSWERS[:3])]
+        rest = list(rng.choice(BESIDE_PC2)) if rng.random() < 0.3 else self.changes()
+        calls = [*first, *rest, 'time', 'time']
+        return calls[:rng.choice((1, rng.randrange(1, len(calls))))] + ['break'] if rng.random() < 0.3 else calls
+
+    def changes(self):
+        """The contract is changed, maybe twice and then often refused, before, in or after an emergency or without one."""
+        calls = [*self.change(), *self.rng.choice(((), self.change(), ('req/periodic-contract', 'negative-ack/periodic')))]
+        if self.rng.random() < 0.5:
+            place = self.rng.choice((0, self.rng.randrange(len(calls))))
+            calls[place:place] = ['emergency']
+            calls += self.maybe('req/modify-emergency', *self.maybe('break')) + ('cancel-emergency',)
+        return [*calls, *self.maybe('periodic-report')]
+
+    def change(self):
+        """A request and its answer; between them maybe a report, which is none, or a request, which is refused."""
+        between = self.rng.choice(((), ('periodic-report',), ('req/periodic-contract',)))
+        return ['req/periodic-contract', *between, self.rng.choice(ANSWERS)]
+
+    def maybe(self, *events):
+        return self.rng.choice((events, ()))
+
     def breaking(self, link, draw):
         """What ends the link, if there is one: data not listed or unreadable, an expiry, cancel-all, aborts."""
         if draw < 0.65 and link.li in ('START', 'ACTIVE'):
             event = self.rarest(ENDING[link.li], link)
-            fresh = not self.coverage.rarity(link, event)[0]
+            fresh = self.coverage.rarity(link, event)[0] < 2
             return self.of_event(link, event) if fresh or self.rng.random() < 0.5 else self.forward(link)
         if draw < 0.8 and link.left:
             return b'elapse %d' % self.near(link)
@@ -259,13 +365,18 @@ class Maker:
 
     def clock(self, link):
         """Time that no timer ends by."""
-        most = min(link.left.values()) - 1 if link.left else MOST
+        most = min([MOST, *(left - 1 for left in link.left.values())])
         return b'elapse %d' % self.rng.choice((most, self.rng.randint(0, most), self.rng.randint(0, most), min(1, most), 0))
 
     def near(self, link):
-        timer, left = self.rng.choice((min(link.left.items(), key=lambda entry: entry[1]),
-                                       self.rng.choice(list(link.left.items()))))
-        return self.rng.choice((left, left, left - 1, left + 1, link.settings[timer], link.settings[timer] - 1, MOST))
+        """Time about the end of the timer that ends first, or of any."""
+        if self.rng.random() < 0.5:
+            return self.about_end(link)
+        timer, left = self.rng.choice(list(link.left.items()))
+        return min(MOST, self.rng.choice((left, left - 1, left + 1, link.settings[timer], link.settings[timer] - 1, MOST)))
+
+    def about_end(self, link):
+        return max(1, min(MOST, first_end(link)[1] + self.coverage.rarest_edge(link)[0]))
 
     def rarest(self, events, link):
         return min(events, key=lambda event: (*self.coverage.rarity(link, event), self.rng.random()))

@@ -1,4 +1,4 @@
-"""Checks of hostmodel.py against page 01 and include/adsc.h: answers worked out by hand.
+"""Checks of hostmodel.py against pages 01 and 02 and include/adsc.h: answers worked out by hand.
 
     test_hostmodel.py [FOLDER]
 
@@ -87,12 +87,12 @@ for kind, mach, ias, number in ((0, 499, 0, 5), (0, 500, 9999, 6), (0, 4001, 0, 
 for parts, element, over in ((25, 16, 8), (29, 8, 8), (35, 4, 16)):
     check(f'number {parts}: bits that do not fit', report(1, element, [over if place == parts else 1 for place in range(25, 40)]), '5 999  ' + 'a5' * 31)
 
-# Records: nine settings of 60, the seconds left, the states of DC, EC, PC, EM and LI.
+# Records: nine settings of 60, the seconds left, the states of DC, EC, PC, EM and LI, the interval asked for and the one in force.
 NONE, OUT = [0] * 9, 'a5' * 22
 
 
-def record(left, states, settings=(60,) * 9):
-    return ''.join(f'{number:08x}' for number in (*settings, *left)) + ''.join(f'{state:02x}' for state in states)
+def record(left, states, settings=(60,) * 9, intervals=(0, 0)):
+    return ''.join([*(f'{number:08x}' for number in (*settings, *left)), *(f'{state:02x}' for state in states), *(f'{number:08x}' for number in intervals)])
 
 
 def left(place, seconds):
@@ -100,10 +100,12 @@ def left(place, seconds):
 
 
 FRESH, PENDING = record(NONE, (0, 0, 0, 0, 0)), record(left(0, 60), (1, 0, 0, 0, 1))
-check('open', 'open ' + '00' * 77 + '   ' + ' '.join(['60'] * 9), f'0 999 {FRESH} ')
+check('open', 'open ' + 'a5' * 85 + '   ' + ' '.join(['60'] * 9), f'0 999 {FRESH} ')
 check('open: a setting', f'open {FRESH}   ' + ' '.join(['86401'] * 9), f'3 999 {FRESH} ')
 check('open: eight settings', f'open {FRESH}   ' + ' '.join(['60'] * 8), f'3 999 {FRESH} ')
-check('open: 76 octets', f'open {FRESH[2:]}   ' + ' '.join(['60'] * 9), f'6 999 {FRESH[2:]} ')
+for size in (0, 77, 84, 86):
+    octets = 'a5' * size
+    check(f'open: {size} octets', f'open {octets}   ' + ' '.join(['60'] * 9), f'6 999 {octets} ')
 check('a demand contract', f'request {FRESH}  {OUT} 3', f'0 999 {PENDING} ' + '00000000 02 0120000000000000 02 3000000000000000'.replace(' ', ''))
 check('59 seconds', f'elapse {PENDING}  {OUT} 59', '0 999 ' + record(left(0, 1), (1, 0, 0, 0, 1)) + ' ' + '00' * 22)
 check('60 seconds', f'elapse {PENDING}  {OUT}ff 60', f'0 999 {FRESH} ' + '00000004 03 1004060000000000 01 7400000000000000 ff'.replace(' ', ''))
@@ -112,7 +114,8 @@ for what, bad in {
         '61 left': record(left(0, 61), (1, 0, 0, 0, 1)), 'a setting of 0': record(NONE, (0, 0, 0, 0, 0), (60,) * 8 + (0,)),
         'a setting of 86,401': record(NONE, (0, 0, 0, 0, 0), (86401,) + (60,) * 8), 'IDLE': record(left(0, 60), (1, 0, 0, 0, 0)),
         'END': record(left(0, 60), (1, 0, 0, 0, 3)), 'no state': record(NONE, (3, 0, 0, 0, 1)), 'no state of LI': record(NONE, (0, 0, 0, 0, 4)),
-        'PC2 in an emergency': record([0] * 5 + [1, 0, 1, 0], (0, 0, 3, 1, 2)), '76 octets': PENDING[2:], '78 octets': PENDING + '00', 'nothing': ''}.items():
+        'PC2 in an emergency': record([0] * 5 + [1, 0, 1, 0], (0, 0, 3, 1, 2), intervals=(0, 60)), '84 octets': PENDING[2:], '86 octets': PENDING + '00',
+        '77 octets': PENDING[:-16], 'nothing': ''}.items():
     for call in ('elapse {}  {} 86401', 'user_abort {}  {}', 'end_confirm {}  {}', 'data {} 00 {}', 'request {}  {} 3 130'):
         for out in (OUT, ''):
             check(f'29: {what}', call.format(bad, out), f'29 999 {bad} {out}')
@@ -122,6 +125,86 @@ check('1 before a field', f'request {PENDING}  {OUT} 3 130', f'1 999 {PENDING} {
 check('a field before 6', f'request {FRESH}   3 130', f'5 999 {FRESH} ')
 check('6 last', f'request {FRESH}   3 0', f'6 999 {FRESH} ')
 check('no line', 'elapse', 'refused 17')
+
+# Intervals (02, L2). Records with PC at a state and seconds left of its timer, the interval asked for and the one in force.
+IDLE, START_PENDING, CHANGE, ACTIVE, CANCEL = range(5)
+TIMER = {START_PENDING: 4, CHANGE: 4, ACTIVE: 5, CANCEL: 6}
+
+
+def periodic(state, seconds=0, asked=0, force=0, li=2):
+    return record(left(TIMER.get(state), seconds), (0, 0, state, 0, li), intervals=(asked, force))
+
+
+def answered(actions, sent='', reason=0):
+    return f'{reason:08x}{len(actions):02x}{bytes(actions).hex():0<16}{len(sent) // 2:02x}{sent:0<16}'
+
+
+def becomes(what, call, before, after, *said):
+    """A call with its octets or numbers, the record before and after it, and the answer."""
+    word, _, more = call.partition(' ')
+    octets, numbers = (more, '') if word in ('data', 'start_confirm') else ('', f' {more}' if more else '')
+    check(what, f'{word} {before} {octets} {OUT}{numbers}', f'0 999 {after} {answered(*said)}')
+
+
+def stays(what, link):
+    becomes(what, 'elapse 0', link, link, [])
+
+
+def bad(what, link):
+    check(f'29: {what}', f'elapse {link}   86401', f'29 999 {link} ')
+
+
+stays('octets 77 to 84', '0000003c' * 9 + '00000000' * 4 + '0000003b' + '00000000' * 4 + '0000020002' + '00000102' + '00001c20')
+# A report every two hours is asked for (64 07 b8) and agreed: PC2 runs for 7,200 and 60 seconds, and each report starts it anew.
+PLAIN, WITH_ACK = '3000000000000000012c00000000', '3200000000000000012c00000000'
+TWO_HOURS = periodic(ACTIVE, 7260, 0, 7200)
+becomes('two hours', 'request 6 0 1 120', FRESH, periodic(START_PENDING, 60, 7200, li=1), [1, 36], '6407b8')
+becomes('agreed', 'start_confirm 3880', periodic(START_PENDING, 1, 7200, li=1), TWO_HOURS, [20, 5, 37])
+becomes('a minute', 'elapse 60', TWO_HOURS, periodic(ACTIVE, 7200, 0, 7200), [])
+becomes('the last second but one', 'elapse 7259', TWO_HOURS, periodic(ACTIVE, 1, 0, 7200), [])
+becomes('the last second', 'elapse 7260', TWO_HOURS, FRESH, [21, 4, 6], '74', 4)
+becomes('a report', f'data {PLAIN}', periodic(ACTIVE, 1, 0, 7200), TWO_HOURS, [21, 5, 37])
+# Other intervals: seconds from 1 to 59, and the default, which is not sent.
+for numbers, seconds, sent in (('0 1', 1, '640000'), ('0 59', 59, '6403a0'), ('1 1', 60, '640400'), ('1 5', 300, '6000')):
+    becomes(f'{seconds} seconds', f'request 6 0 {numbers}', FRESH, periodic(START_PENDING, 60, seconds, li=1), [1, 36], sent)
+# A change: the old interval is in force until an answer, and then the new one, unless it is a negative ack.
+CHANGING = periodic(CHANGE, 9, 30, 7200)
+becomes('a change', 'request 6 0 0 30', TWO_HOURS, periodic(CHANGE, 60, 30, 7200), [21, 2, 36], '6401d0')
+becomes('a plain report is no answer', f'data {PLAIN}', CHANGING, CHANGING, [5])
+becomes('negative ack', 'data 20b0', CHANGING, TWO_HOURS, [20, 5, 37])
+for what, octets in (('positive ack', '3880'), ('report with ack', WITH_ACK), ('noncompliance', '2a00'), ('noncompliance with the interval', '2a0170')):
+    becomes(what, f'data {octets}', CHANGING, periodic(ACTIVE, 90, 0, 30), [20, 5, 37])
+    becomes(f'{what} at the start', f'data {octets}', periodic(START_PENDING, 9, 30), periodic(ACTIVE, 90, 0, 30), [20, 5, 37])
+# In an emergency (EM1 has 7 seconds left) the new one is in force at the answer, and PC2 starts with it at the end.
+URGENT = [0] * 7 + [7, 0]
+becomes('an answer in an emergency', 'data 3880', record([0] * 4 + [9, 0, 0, 7, 0], (0, 0, CHANGE, 1, 2), intervals=(30, 7200)),
+        record(URGENT, (0, 0, ACTIVE, 1, 2), intervals=(0, 30)), [20, 5])
+becomes('the end of an emergency', 'data 00', record(URGENT, (0, 0, ACTIVE, 1, 2), intervals=(0, 30)), periodic(ACTIVE, 90, 0, 30), [23, 5, 2, 37], '20')
+# A cancel leaves it in force; where PC goes IDLE there is none.
+becomes('a cancel', 'request 1 1', TWO_HOURS, periodic(CANCEL, 60, 0, 7200), [21, 2, 38], '14')
+becomes('cancelled', 'data 3a00', periodic(CANCEL, 9, 0, 7200), periodic(IDLE, li=3), [22, 5, 3])
+becomes('refused', 'start_confirm 20b0', periodic(START_PENDING, 9, 30, li=1), periodic(IDLE, li=3), [20, 5, 3])
+becomes('rejected', 'start_rejected', periodic(START_PENDING, 9, 30, li=1), FRESH, [20, 6], '', 5)
+becomes('cancel-all', 'request 0', CHANGING, periodic(IDLE, li=3), [20, 3], '00')
+becomes('user abort', 'user_abort', CHANGING, FRESH, [20, 4])
+becomes('down', 'down', CHANGING, FRESH, [20, 6])
+becomes('not due', 'data 3a00', CHANGING, FRESH, [20, 4, 6], '73', 3)
+# 29: which states have which interval, 1 to 7,200.
+for state, has_asked, has_force in ((IDLE, 0, 0), (START_PENDING, 1, 0), (CHANGE, 1, 1), (ACTIVE, 0, 1), (CANCEL, 0, 1)):
+    for seconds in (0, 1, 7200, 7201, 2 ** 32 - 1):
+        judge = stays if seconds in (1, 7200) else bad
+        (judge if has_asked else bad if seconds else stays)(f'asked {seconds} at {state}', periodic(state, 60, seconds, 60 * has_force))
+        (judge if has_force else bad if seconds else stays)(f'force {seconds} at {state}', periodic(state, 60, 60 * has_asked, seconds))
+# 29: PC2 has no more left than interval plus setting, the others no more than their setting.
+for setting, force in ((60, 7200), (60, 1), (1, 1), (86400, 7200)):
+    settings = [setting] * 9
+    for seconds in (1, setting, setting + 1, setting + force):
+        stays(f'{seconds} of {setting} + {force}', record(left(5, seconds), (0, 0, ACTIVE, 0, 2), settings, (0, force)))
+    bad(f'one more than {setting} + {force}', record(left(5, setting + force + 1), (0, 0, ACTIVE, 0, 2), settings, (0, force)))
+bad('PC1', periodic(START_PENDING, 61, 7200))
+bad('PC1 of a change', periodic(CHANGE, 61, 7200, 7200))
+bad('PC3', periodic(CANCEL, 61, 0, 7200))
+bad('EM1', record([0] * 7 + [61, 0], (0, 0, ACTIVE, 1, 2), intervals=(0, 7200)))
 
 if failures:
     print(f'hostmodel: {failures} of {len(stored)} checks failed')

@@ -1,8 +1,8 @@
-"""Checks of linkmodel.py against page 01: its example, and traces worked out by hand from its tables."""
+"""Checks of linkmodel.py against page 01 and L2 of 02: the page's example, and traces and records worked out by hand."""
 
 import sys
 
-from linkmodel import trace
+from linkmodel import RULES, Link, trace
 from percoder import write
 
 ZERO = {'sign': 0, 'degrees': 0, 'minutes': 0, 'tenths': 0}
@@ -153,6 +153,72 @@ CASES = {
         req 4000        | refused 17''',
 }
 
+# Intervals (02, L2): PC2 is set to 60, and runs for the interval in force and those.
+CASES.update({
+    f'PC2 after {asked}': f"""
+        req {asked}             | ok start-req {asked} start PC1
+        start-cnf 3880          | ok stop PC1 ind 3880 start PC2
+        elapse {interval + 59}  | ok
+        data PER                | ok stop PC2 ind PER start PC2
+        elapse {interval + 59}  | ok
+        elapse 1                | ok stop PC2 abort-req 74 ind abort 4"""
+    for asked, interval in (('640000', 1), ('6403a0', 59), ('640400', 60), ('6000', 300), ('6407b8', 7200))})
+CHANGES = (('6407b8', 'PER+', 7200), ('640000', '3880', 1), ('6000', '2a00', 300), ('6407b8', '20b0', 60))
+CASES.update({
+    f'a change answered with {answer}': f"""
+        req 640400              | ok start-req 640400 start PC1
+        start-cnf 3880          | ok stop PC1 ind 3880 start PC2
+        req {asked}             | ok stop PC2 data-req {asked} start PC1
+        data PER                | ok ind PER
+        data {answer}           | ok stop PC1 ind {answer} start PC2
+        elapse {interval + 59}  | ok
+        data PER                | ok stop PC2 ind PER start PC2
+        elapse {interval + 60}  | ok stop PC2 abort-req 74 ind abort 4"""
+    for asked, answer, interval in CHANGES})
+CASES.update({
+    f'a change answered with {answer} in an emergency': f"""
+        req 640400              | ok start-req 640400 start PC1
+        start-cnf 3880          | ok stop PC1 ind 3880 start PC2
+        data EMG                | ok stop PC2 ind EMG start EM1
+        req {asked}             | ok data-req {asked} start PC1
+        data {answer}           | ok stop PC1 ind {answer}
+        data 00                 | ok stop EM1 ind 00 data-req 20 start PC2
+        elapse {interval + 59}  | ok
+        elapse 1                | ok stop PC2 abort-req 74 ind abort 4"""
+    for asked, answer, interval in CHANGES})
+CASES['a change accepted and one refused in an emergency; the modify has an interval of its own'] = '''
+        req 640400      | ok start-req 640400 start PC1
+        start-cnf 3880  | ok stop PC1 ind 3880 start PC2
+        data EMG        | ok stop PC2 ind EMG start EM1
+        req 6000        | ok data-req 6000 start PC1
+        data 3880       | ok stop PC1 ind 3880
+        req 6407b8      | ok data-req 6407b8 start PC1
+        data 20b0       | ok stop PC1 ind 20b0
+        req 5000        | ok stop EM1 data-req 5000 start EM2
+        data 3a80       | ok stop EM2 ind 3a80 start EM1
+        elapse 79       | ok
+        data 00         | ok stop EM1 ind 00 data-req 20 start PC2
+        elapse 359      | ok
+        elapse 1        | ok stop PC2 abort-req 74 ind abort 4'''
+
+# Records: PC's state, the interval asked for, the one in force, PC2's seconds left of its 60 and those, whether there is an
+# emergency; and whether that is good by refusal 29.
+RECORDS = [
+    # "an interval missing from its state, foreign to it, or over 7,200" (02, L2)
+    ('IDLE', 0, 0, 0, False, True), ('IDLE', 1, 0, 0, False, False), ('IDLE', 0, 1, 0, False, False),
+    ('START-PENDING', 1, 0, 0, False, True), ('START-PENDING', 7200, 0, 0, False, True), ('START-PENDING', 0, 0, 0, False, False),
+    ('START-PENDING', 7201, 0, 0, False, False), ('START-PENDING', 1, 1, 0, False, False),
+    ('PENDING', 1, 7200, 0, False, True), ('PENDING', 7200, 1, 0, True, True), ('PENDING', 0, 1, 0, False, False),
+    ('PENDING', 1, 0, 0, False, False), ('PENDING', 7201, 1, 0, False, False), ('PENDING', 1, 7201, 0, False, False),
+    ('CANCEL', 0, 1, 0, False, True), ('CANCEL', 0, 7200, 0, True, True), ('CANCEL', 0, 0, 0, False, False), ('CANCEL', 1, 1, 0, False, False),
+    ('CANCEL', 0, 7201, 0, False, False),
+    ('ACTIVE', 0, 1, 0, True, True), ('ACTIVE', 0, 0, 0, True, False), ('ACTIVE', 0, 7201, 0, True, False), ('ACTIVE', 1, 1, 0, True, False),
+    # ""no more than interval plus grace" for PC2"
+    ('ACTIVE', 0, 1, 1, False, True), ('ACTIVE', 0, 1, 61, False, True), ('ACTIVE', 0, 1, 62, False, False), ('ACTIVE', 0, 7200, 7260, False, True),
+    ('ACTIVE', 0, 7200, 7261, False, False), ('ACTIVE', 0, 7201, 60, False, False), ('ACTIVE', 1, 1, 60, False, False),
+    ('ACTIVE', 0, 1, 0, False, False), ('ACTIVE', 0, 1, 60, True, False),
+]
+
 # Whole scripts and traces: the example of 01, and lines (its script words).
 WHOLE = {
     'the example': (
@@ -194,6 +260,16 @@ def answers(lines):
     return [line.split(' ', 1)[1] for line in trace(script).decode().split('\n')[1:-2]]
 
 
+def record(pc, asked, force, left, emergency):
+    """A link with its other timers fresh."""
+    link = Link(RULES, range(10, 100, 10))
+    link.li = 'IDLE' if pc == 'IDLE' else 'ACTIVE'
+    link.state.update(PC=pc, EM='ACTIVE' if emergency else 'IDLE')
+    link.asked, link.force = asked, force
+    link.left = {timer: link.settings[timer] for timer in link.watched() if timer != 'PC2'} | ({'PC2': left} if left else {})
+    return link
+
+
 for what, (script, wanted) in WHOLE.items():
     check(what, trace(script), wanted)
 for what, text in CASES.items():
@@ -202,6 +278,8 @@ for what, text in CASES.items():
         check(f'{what}, {call}', got, wanted)
 for (line, number), got in zip(LINES, answers([line for line, _ in LINES])):
     check(ascii(line[:60]), got, f'refused {number}' if number else 'ok')
+for *numbers, wanted in RECORDS:
+    check(f'record {numbers}', record(*numbers).good(), wanted)
 
 if failures:
     print(f'linkmodel: {failures} of {checks} checks failed')

@@ -1,6 +1,6 @@
 """traces.py PROGRAM [ARGS..]: plays every stored script; the program and the model of the link have to give its trace, octet for octet.
 
-The traces are worked out from 01 by hand: so neither the program nor the model is the measure of the other.
+The traces are worked out from 01 and 02 by hand: so neither the program nor the model is the measure of the other.
 """
 import itertools
 import pathlib

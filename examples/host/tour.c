@@ -1,4 +1,4 @@
-/* The ten lines of the README: a link is opened, a periodic contract asked for and agreed, a report comes, and then none. */
+/* The ten lines of the README: a link is opened, a report every minute asked for and agreed, one comes at the last second of the grace, and then none. */
 #include <stdio.h>
 #include "adsc.h"
 
@@ -22,10 +22,10 @@ int main(void)
     uint8_t ack[] = {0x38, 0x80}, report[] = {0x30, 0, 0, 0, 0, 0, 0, 0, 1, 0x2c, 0, 0, 0, 0};
     act(adsc_open(settings, ADSC_TIMERS, link, sizeof link), NULL);
     act(adsc_request(link, sizeof link, contract, ADSC_GROUND_NUMBERS, answer, sizeof answer), answer);   /* 640400 goes with a start request; PC1 runs */
-    act(adsc_start_confirm(link, sizeof link, ack, sizeof ack, answer, sizeof answer), answer);           /* agreed: PC2 runs, 240 seconds */
-    act(adsc_elapse(link, sizeof link, 60, answer, sizeof answer), answer);                               /* a minute: 180 are left */
-    act(adsc_data(link, sizeof link, report, sizeof report, answer, sizeof answer), answer);              /* a report for the user: 240 again */
-    act(adsc_elapse(link, sizeof link, 240, answer, sizeof answer), answer);                              /* silence: the link ends, abort 4 */
+    act(adsc_start_confirm(link, sizeof link, ack, sizeof ack, answer, sizeof answer), answer);           /* agreed: PC2 runs, 60 + 240 seconds */
+    act(adsc_elapse(link, sizeof link, 299, answer, sizeof answer), answer);                              /* overdue by 239: one is left */
+    act(adsc_data(link, sizeof link, report, sizeof report, answer, sizeof answer), answer);              /* a report for the user: 300 again */
+    act(adsc_elapse(link, sizeof link, 300, answer, sizeof answer), answer);                              /* silence: the link ends, abort 4 */
     /* to here */
     return 0;
 }

@@ -18,14 +18,16 @@ use Rattle.sides.specs.Runs.{seconds}
 use Rattle.ground_tables.specs.Names.{LI-IDLE, LI-START, LI-ACTIVE, LI-END}
 use Rattle.ground_tables.specs.Moves.{liEnd}
 use Rattle.ground_tables.specs.Tables.{idle, liIs, liBusy}
-use Rattle.ground_answer.specs.Record.{loads, good, moveAt, went}
+use Rattle.ground_tables.proofs.KeptIntervals.{asksWell}
+use Rattle.ground_answer.specs.Record.{loads, good, moveAt, agreedAt, went}
 use Rattle.ground_answer.specs.declared.record.Link.{Link}
-use Rattle.ground_answer.specs.Events.{cancel-all, requestEvent, airEvent}
+use Rattle.ground_answer.specs.Events.{cancel-all, requestEvent, asksFor, airEvent}
 use Rattle.ground_answer.specs.Sent.{outgoing}
 use Rattle.ground_answer.specs.declared.sent.Sent.{Sent}
 use Rattle.ground_answer.specs.Answers.{ABORT-REQUEST, ABORT-IND, PEER-ABORT-IND, START-REQUEST, DATA-REQUEST, END-REQUEST, refusal, tells, allowed}
 use Rattle.ground_answer.specs.Aborts.{aborted, closed, closedWhen}
 use Rattle.ground_answer.specs.Clock.{waited, elapsed}
+use Rattle.ground.proofs.Asks.{asked-well, data-well}
 use Rattle.ground.specs.Requests.{asked, cancelled, allCancelled, requested, userAborted}
 use Rattle.ground.specs.Arrivals.{ackOf, ended, passed, taken, confirmed, lateData, arrived}
 use Rattle.ground.specs.Endings.{rejected, failed, reasonOf, airAborted, peerAborted, over, endConfirmed}
@@ -45,9 +47,11 @@ pub record Kinds (l : Link) (P : ℕ → Answer → Type 0) : Type 0 where
   pub aborts : (n s : ℕ) → T (good l) → P s (aborted l n)
   pub closes : (entry reason : ℕ) → T (good l) → P 0 (closed l entry reason)
   pub cancels : T (good l) → P 0 (cancelled l)
-  pub goes : (k e entry : ℕ) (s : Sent) → T (good l) → Way (l .at) k → eqb (moveAt l k e .fate) 0 ≡ true → P 0 (tells l (went l k e entry) 0 s)
-  pub ends : (e : ℕ) (s : Sent) → T (good l) → T (liBusy (l .at)) → eqb (moveAt l LI-ACTIVE e .fate) 0 ≡ true → T (idle (went l LI-ACTIVE e DATA-REQUEST .at))
-      → P 0 (tells l (performed (went l LI-ACTIVE e DATA-REQUEST) liEnd (loads l) END-REQUEST) 0 s)
+  pub goes : (k e n entry : ℕ) (s : Sent) → T (good l) → Way (l .at) k → eqb (moveAt l k e .fate) 0 ≡ true → T (asksWell e n)
+      → P 0 (tells (agreedAt l k e n) (went l k e n entry) 0 s)
+  pub ends : (e : ℕ) (s : Sent) → T (good l) → T (liBusy (l .at)) → eqb (moveAt l LI-ACTIVE e .fate) 0 ≡ true → T (asksWell e 0)
+      → T (idle (went l LI-ACTIVE e 0 DATA-REQUEST .at))
+      → P 0 (tells (agreedAt l LI-ACTIVE e 0) (performed (went l LI-ACTIVE e 0 DATA-REQUEST) liEnd (loads (agreedAt l LI-ACTIVE e 0)) END-REQUEST) 0 s)
   pub waits : (n : ℕ) → T (good l) → T (below timers (notDue n (l .left))) → P n (waited l n)
   pub turns : T (good l) → T (liIs (l .at) LI-END) → P 0 (over l)
   pub late : T (good l) → P 0 (lateData l)
@@ -85,7 +89,7 @@ module _ (l : Link) (P : ℕ → Answer → Type 0) (k : Kinds l P) where
   unfolding asked
   asking g li entry w ok =
       pick-case (P 0) (eqb (moveAt l li (requestEvent g) .fate) 0)
-      (λ f. pick-case (P 0) (eqb (outgoing g .refusal) 0) (λ r. k .goes li (requestEvent g) entry (outgoing g .sent) ok w f) (λ r. k .stays (outgoing g .refusal) r))
+      (λ f. pick-case (P 0) (eqb (outgoing g .refusal) 0) (λ r. k .goes li (requestEvent g) (asksFor g) entry (outgoing g .sent) ok w f (asked-well g r)) (λ r. k .stays (outgoing g .refusal) r))
       (λ f. k .stays 1 refl)
 
   requesting : (g : Ground) → P 0 (requested l g)
@@ -98,18 +102,18 @@ module _ (l : Link) (P : ℕ → Answer → Type 0) (k : Kinds l P) where
       (λ i. pick-case (P 0) (liIs (l .at) LI-ACTIVE) (λ j. asking g LI-ACTIVE DATA-REQUEST (stays-open (busy-active (l .at) (eq-T _ j))) (eq-T _ ok)) (λ j. k .stays 1 refl)))
       (λ bad. k .stays 29 refl))
 
-  passing : (e : ℕ) → T (good l) → T (liBusy (l .at)) → P 0 (passed l e)
+  passing : (e : ℕ) → T (asksWell e 0) → T (good l) → T (liBusy (l .at)) → P 0 (passed l e)
   unfolding passed ended
-  passing e ok b =
+  passing e w ok b =
       pick-case (P 0) (eqb (moveAt l LI-ACTIVE e .fate) 0)
-      (λ f. pick-case (P 0) (idle (went l LI-ACTIVE e DATA-REQUEST .at))
-      (λ i. k .ends e (ackOf (moveAt l LI-ACTIVE e)) ok b f (eq-T _ i))
-      (λ i. k .goes LI-ACTIVE e DATA-REQUEST (ackOf (moveAt l LI-ACTIVE e)) ok (stays-open b) f))
+      (λ f. pick-case (P 0) (idle (went l LI-ACTIVE e 0 DATA-REQUEST .at))
+      (λ i. k .ends e (ackOf (moveAt l LI-ACTIVE e)) ok b f w (eq-T _ i))
+      (λ i. k .goes LI-ACTIVE e 0 DATA-REQUEST (ackOf (moveAt l LI-ACTIVE e)) ok (stays-open b) f w))
       (λ f. k .aborts 3 0 ok)
 
   taking : (x : per.Answer AirPdu) → T (good l) → T (liBusy (l .at)) → P 0 (taken l x)
   unfolding taken
-  taking (got a) ok b = passing (airEvent (a .kind)) ok b
+  taking (got a) ok b = passing (airEvent (a .kind)) (data-well (a .kind)) ok b
   taking (refused n) ok b = k .aborts 2 0 ok
 
   confirming : (s : List ℕ) → P 0 (confirmed l s)

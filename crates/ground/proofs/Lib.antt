@@ -1,4 +1,5 @@
 pub mod Moving
+pub mod Asks
 pub mod Keeps
 pub mod Stops
 pub mod Every

@@ -1,22 +1,24 @@
--- What holds of every call on every link, and the desk's question. Assumes nothing.
+-- What holds of every call on every link, and what a timer may have left. Assumes nothing.
 use mathlib.Core.Path.{_≡_, refl, sym, subst, ap, _∙_}
 use mathlib.Core.Bool.{Bool, true, false}
 use mathlib.Core.List.{List, [], _∷_}
 use Prim.Native.Nat.{ℕ, _+_, _≤_}
+use native.Mathlib.Nat.{add-zero}
 use native.Mathlib.Omega.{arith}
-use lib.Dec.{T, ltb, eqb, ltb→lt, lit<}
+use borrow.Author.Tests.{eqb-true}
+use lib.Dec.{T, ltb, eqb, ltb→lt}
 use lib.ListN.{length, getD, set}
 use Rattle.link.specs.Tests.{pick, below}
-use Rattle.link.specs.Names.{timers, PC, EM}
-use Rattle.link.specs.Watch.{runs, settingOk}
+use Rattle.link.specs.Names.{timers, PC}
+use Rattle.link.specs.Watch.{settingOk}
 use Rattle.link.specs.Acts.{acts, pushed, pushedAll}
 use Rattle.link.specs.Step.{performed, begun, added, stopped}
 use Rattle.link.specs.declared.acts.Acts.{Acts}
 use Rattle.link.proofs.Laws.{no-true}
-use Rattle.sides.specs.Runs.{after, total, Untouched}
-use Rattle.ground_tables.specs.Names.{IDLE, ACTIVE, PC2}
-use Rattle.ground_tables.specs.Watch.{groundWatch}
-use Rattle.ground_tables.specs.Tables.{groundTables}
+use Rattle.sides.specs.Runs.{after}
+use Rattle.ground_tables.specs.Names.{PC2}
+use Rattle.ground_tables.specs.Intervals.{intervalsOk}
+use Rattle.ground_tables.proofs.KeptIntervals.{force-most}
 use Rattle.ground_answer.specs.Record.{loads, fresh, turned, went}
 use Rattle.ground_answer.specs.declared.record.Link.{Link}
 use Rattle.ground_answer.specs.Answers.{refusal}
@@ -28,9 +30,9 @@ use Rattle.ground.specs.Endings.{over}
 use Rattle.ground.specs.Runs.{answered, Made, reply, ground}
 use Rattle.ground_answer.specs.declared.answer.Answer.{Answer}
 use Rattle.ground.specs.declared.call.Call.{Call}
-use Rattle.ground.specs.declared.call.Call.the-variants.{Elapse}
 use Rattle.ground.proofs.Every.{Kinds, every}
-use Rattle.ground.proofs.Demand3.{settings-kinds, demand3-first, demand3-second}
+use Rattle.ground.proofs.Keeps.{Fine, good-settings, good-intervals, pc2-loads, other-loads, fresh-fine}
+use Rattle.ground.proofs.Demand3.{settings-kinds, after-fine}
 
 -- "a refused call leaves the link .. as before it", and gives no action and no octets
 pub refused-still : (l : Link) (c : Made) → eqb (reply l c .said .refusal) 0 ≡ false → reply l c ≡ refusal l (reply l c .said .refusal)
@@ -44,8 +46,8 @@ refused-still l c = every l (λ n a. eqb (a .said .refusal) 0 ≡ false → a �
           aborts = λ n s g e. absurd (no-true e);
           closes = λ entry reason g e. absurd (no-true e);
           cancels = λ g e. absurd (no-true e);
-          goes = λ k x entry s g w f e. absurd (no-true e);
-          ends = λ x s g b f i e. absurd (no-true e);
+          goes = λ k x n entry s g w f a e. absurd (no-true e);
+          ends = λ x s g b f a i e. absurd (no-true e);
           waits = λ n g d e. absurd (no-true e);
           turns = λ g i e. absurd (no-true e);
           late = λ g e. absurd (no-true e);
@@ -82,8 +84,8 @@ at-most-8 l c =
       aborts = λ n s g. pushed-most _ 6 (pushed-most _ 4 (all-most _ _ none-most));
       closes = λ entry reason g. pushed-most _ entry (all-most _ _ none-most);
       cancels = λ g. all-most _ _ (all-most _ _ none-most);
-      goes = λ k e entry s g w f. all-most _ _ (all-most _ _ none-most);
-      ends = λ e s g b f i. all-most _ _ (all-most _ _ (all-most _ _ none-most));
+      goes = λ k e n entry s g w f a. all-most _ _ (all-most _ _ none-most);
+      ends = λ e s g b f a i. all-most _ _ (all-most _ _ (all-most _ _ none-most));
       waits = λ n g d. none-most;
       turns = λ g e. all-most _ _ none-most;
       late = λ g. pushed-most _ 8 none-most;
@@ -96,23 +98,27 @@ unfolding after
 settings-stay l [] = refl
 settings-stay l (c ∷ cs) = settings-stay (reply l c .link) cs ∙ every l (λ n a. a .link .setting ≡ l .setting) (settings-kinds l) c
 
--- PC-ACTIVE with EM-IDLE is where PC2 runs
-pc2-runs : (at : List ℕ) → getD at PC 0 ≡ ACTIVE → getD at EM 0 ≡ IDLE → runs groundWatch PC2 at ≡ true
-unfolding runs groundWatch
-pc2-runs at p q = rw (p, q)
-
--- The desk's question, "If the periodic report stops coming, how long does your box go on showing me the last one?" A periodic contract is in force and no
--- emergency holds. No call stops or starts PC2, so no report comes. Then the elapse at which PC2's setting is reached aborts the link, if none did before
-pub desk : (s : List ℕ) → length s ≡ timers → T (below timers (settingOk s)) → (before : List Made) → getD (after ground (fresh s) before .at) PC 0 ≡ ACTIVE
-    → getD (after ground (fresh s) before .at) EM 0 ≡ IDLE → (cs : List Made) → Untouched ground PC2 (after ground (fresh s) before) cs → (n : ℕ) → n ≤ 86400
-    → getD s PC2 0 ≤ total ground (after ground (fresh s) before) cs + n → (octets : List ℕ)
-    → answered (after ground (after ground (fresh s) before) cs) (Elapse n) octets ≡ aborted (after ground (after ground (fresh s) before) cs) 4
-unfolding fresh groundTables loads
-desk s e h before p q cs u n most reach octets =
-    let l = after ground (fresh s) before in
-    let on = demand3-first s e h before PC2 (lit< tt) .runs-left (pc2-runs (l .at) p q) in
-    let same : getD (l .setting) PC2 0 ≡ getD s PC2 0 = ap (λ (x : List ℕ). getD x PC2 0) (settings-stay (fresh s) before ∙ fresh-setting s) in
-    demand3-second s e h before PC2 (lit< tt) (getD (l .left) PC2 0) (on .0) refl cs u n most (omega (arith, on .1, same, reach)) octets
+-- what a timer may have left at the most: its setting, and for PC2 the interval in force as well
+pub loads-most : (s : List ℕ) → length s ≡ timers → T (below timers (settingOk s)) → (cs : List Made) (t : ℕ)
+    → getD (loads (after ground (fresh s) cs)) t 0 ≡ getD s t 0 + pick (eqb t PC2) (after ground (fresh s) cs .interval .force) 0
+unfolding fresh
+loads-most s e h cs t = go (eqb t PC2) refl
   where
-    fresh-setting : (x : List ℕ) → fresh x .setting ≡ x
-    fresh-setting x = refl
+    l : Link
+    l = after ground (fresh s) cs
+
+    same : l .setting ≡ s
+    same = settings-stay (fresh s) cs
+
+    f : Fine l
+    f = after-fine (fresh s) cs (fresh-fine s e h)
+
+    go : (x : Bool) → eqb t PC2 ≡ x → getD (loads l) t 0 ≡ getD s t 0 + pick x (l .interval .force) 0
+    go true q =
+        rw (eqb-true t PC2 q) (pc2-loads l (f .settings) (good-settings l f) (force-most (getD (l .at) PC 0) (l .interval) (good-intervals l f)) ∙ ap (λ (x : List ℕ). getD x PC2 0 + l .interval .force) same)
+    go false q = other-loads l t q ∙ ap (λ (x : List ℕ). getD x t 0) same ∙ sym (add-zero _)
+
+-- the intervals are those of the present state of PC
+pub intervals-held : (s : List ℕ) → length s ≡ timers → T (below timers (settingOk s)) → (cs : List Made)
+    → T (intervalsOk (getD (after ground (fresh s) cs .at) PC 0) (after ground (fresh s) cs .interval))
+intervals-held s e h cs = good-intervals (after ground (fresh s) cs) (after-fine (fresh s) cs (fresh-fine s e h))

@@ -12,7 +12,7 @@ use Rattle.ground_tables.specs.Names.{LI-IDLE, LI-ACTIVE}
 use Rattle.ground_tables.specs.Moves.{liEnd}
 use Rattle.ground_tables.proofs.Fitting.{ground-fits}
 use Rattle.ground_tables.specs.Tables.{groundTables}
-use Rattle.ground_answer.specs.Record.{loads, view}
+use Rattle.ground_answer.specs.Record.{loads, cleared, view}
 use Rattle.ground_answer.specs.declared.record.Link.{Link}
 use Rattle.ground_answer.specs.Answers.{END-REQUEST}
 use Rattle.ground_answer.specs.Aborts.{aborted, closed}
@@ -31,4 +31,4 @@ abort-list l n f = stopped-said groundTables ground-fits (view l) (fine-sound l 
 pub cancel-list : (l : Link) → Fine l → cancelled l .said .acts ≡ acts (stopsOf timers (l .left) ++ (3 ∷ []))
 unfolding cancelled pushedAll actsOf
 cancel-list l f =
-    stopped-said groundTables ground-fits (view l) (fine-sound l f) LI-ACTIVE (record { move = liEnd; send = END-REQUEST; most = loads l } ∷ []) [] (lit≤ tt)
+    stopped-said groundTables ground-fits (view l) (fine-sound l f) LI-ACTIVE (record { move = liEnd; send = END-REQUEST; most = loads (cleared l) } ∷ []) [] (lit≤ tt)

@@ -14,7 +14,7 @@ use Rattle.link.specs.declared.executor.Step.{Step}
 use Rattle.ground_tables.specs.Names.{LI-START, LI-ACTIVE, LI-END}
 use Rattle.ground_tables.specs.Moves.{liEnd}
 use Rattle.ground_tables.specs.Tables.{idle, liIs}
-use Rattle.ground_answer.specs.Record.{loads, moveAt, went}
+use Rattle.ground_answer.specs.Record.{loads, moveAt, agreedAt, went}
 use Rattle.ground_answer.specs.declared.record.Link.{Link}
 use Rattle.ground_answer.specs.Events.{airEvent}
 use Rattle.ground_answer.specs.Sent.{sent, outgoing}
@@ -34,10 +34,12 @@ ackOf m = pick (m .send) (outgoing CancelEmergencyAck .sent) (sent [])
 unfoldable pub ended : Link → Step → Sent → Answer
 ended l s octets = pick (idle (s .at)) (tells l (performed s liEnd (loads l) END-REQUEST) 0 octets) (tells l s 0 octets)
 
--- "Downlink data not listed for a state: abort 3."
+-- "Downlink data not listed for a state: abort 3." Data asks for no interval
 unfoldable pub passed : Link → ℕ → Answer
 passed l e =
-    pick (eqb (moveAt l LI-ACTIVE e .fate) GOES) (ended l (went l LI-ACTIVE e DATA-REQUEST) (ackOf (moveAt l LI-ACTIVE e))) (aborted l SEQUENCE-ERROR)
+    pick (eqb (moveAt l LI-ACTIVE e .fate) GOES)
+    (ended (agreedAt l LI-ACTIVE e 0) (went l LI-ACTIVE e 0 DATA-REQUEST) (ackOf (moveAt l LI-ACTIVE e)))
+    (aborted l SEQUENCE-ERROR)
 
 -- "A value is taken only when the reading is good; otherwise a start confirm in START or data in ACTIVE ends in abort 2."
 unfoldable pub taken : Link → per.Answer AirPdu → Answer

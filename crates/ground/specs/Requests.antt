@@ -9,9 +9,9 @@ use Rattle.link.specs.Step.{performed, stopped}
 use Rattle.ground_tables.specs.Names.{LI-IDLE, LI-START, LI-ACTIVE}
 use Rattle.ground_tables.specs.Moves.{liEnd}
 use Rattle.ground_tables.specs.Tables.{liIs}
-use Rattle.ground_answer.specs.Record.{loads, moveAt, went}
+use Rattle.ground_answer.specs.Record.{loads, cleared, moveAt, agreedAt, went}
 use Rattle.ground_answer.specs.declared.record.Link.{Link}
-use Rattle.ground_answer.specs.Events.{cancel-all, requestEvent}
+use Rattle.ground_answer.specs.Events.{cancel-all, requestEvent, asksFor}
 use Rattle.ground_answer.specs.Sent.{outgoing}
 use Rattle.ground_answer.specs.Answers.{START-REQUEST, DATA-REQUEST, END-REQUEST, ABORT-REQUEST, refusal, tells, checked, allowed}
 use Rattle.ground_answer.specs.Aborts.{closedWhen}
@@ -24,13 +24,13 @@ unfoldable pub asked : Link → Ground → ℕ → ℕ → Answer
 asked l g li entry =
     pick (eqb (moveAt l li (requestEvent g) .fate) GOES)
     (pick (eqb (outgoing g .refusal) 0)
-    (tells l (went l li (requestEvent g) entry) 0 (outgoing g .sent))
+    (tells (agreedAt l li (requestEvent g) (asksFor g)) (went l li (requestEvent g) (asksFor g) entry) 0 (outgoing g .sent))
     (refusal l (outgoing g .refusal)))
     (refusal l NOT-PERMITTED)
 
 -- "Cancel-all in ACTIVE: stop running timers in watch order, all modules IDLE, end request with the PDU, END."
 unfoldable pub cancelled : Link → Answer
-cancelled l = tells l (performed (stopped LI-ACTIVE (l .left)) liEnd (loads l) END-REQUEST) 0 (outgoing CancelAll .sent)
+cancelled l = tells (cleared l) (performed (stopped LI-ACTIVE (l .left)) liEnd (loads (cleared l)) END-REQUEST) 0 (outgoing CancelAll .sent)
 
 unfoldable pub allCancelled : Link → Answer
 allCancelled l = allowed l (liIs (l .at) LI-ACTIVE) NOT-PERMITTED (cancelled l)

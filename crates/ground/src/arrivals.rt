@@ -5,6 +5,7 @@ use ground_answer::events::air_event;
 use ground_answer::reasons::INVALID_PDU;
 use ground_answer::reasons::SEQUENCE_ERROR;
 use ground_answer::record::Link;
+use ground_answer::record::agree_on;
 use ground_answer::record::all_idle;
 use ground_answer::record::is_good;
 use ground_answer::record::most_of;
@@ -65,7 +66,12 @@ fn pass(l: Link, event: u8) -> Answer
     if fate != GOES {
         return abort(l, SEQUENCE_ERROR);
     }
-    end(l, perform(first, m, most_of(l), DATA_REQUEST), ack_of(m))
+    let next = agree_on(l, event, 0, m);
+    end(
+        next,
+        perform(first, m, most_of(next), DATA_REQUEST),
+        ack_of(m),
+    )
 }
 
 // A value is taken only when the reading is good; otherwise abort 2.

@@ -1,9 +1,11 @@
 -- The event that each PDU is, for the ground tables of 01.
-use Prim.Native.Nat.{ℕ, _+_, _*_}
+use Prim.Native.Nat.{ℕ, _*_}
 use lib.Dec.{eqb}
 use Rattle.link.specs.Tests.{pick}
-use Rattle.link.specs.Names.{DC, EC, PC, EM, GROUP}
-use Rattle.ground_tables.specs.Names.{request, cancel, modify, dc-report-ack, dc-report, dc-negative, dc-noncompliance, report-ack, report, positive, noncompliance, cancelled, negative, em-report, em-report-ack, em-positive, em-cancel}
+use Rattle.link.specs.Names.{DC, EC, PC, EM}
+use Rattle.ground_tables.specs.Names.{of, request, cancel, modify, dc-report-ack, dc-report, dc-negative, dc-noncompliance, report-ack, report, positive, noncompliance, cancelled, negative, em-report, em-report-ack, em-positive, em-cancel}
+use Rattle.pdu_parts.specs.declared.interval.Interval.{Interval}
+use Rattle.pdu_parts.specs.declared.interval.Interval.the-variants.{Seconds, Minutes}
 use Rattle.pdu.specs.declared.uplink.Ground.{Ground}
 use Rattle.pdu.specs.declared.uplink.Ground.the-variants.{CancelAll, CancelContract, CancelEmergencyAck, DemandContract, EventContract, ModifyEmergency, PeriodicContract}
 use Rattle.pdu.specs.declared.uplink.Ground as ground
@@ -13,10 +15,7 @@ use Rattle.pdu.specs.Contents.{numberOf}
 use Rattle.pdu.specs.declared.downlink.Air.the-variants.{CancelEmergency, Demand, Emergency, Event, Negative, Noncompliance, Periodic, Positive, Abort}
 use Rattle.ground_answer.specs.Reasons.{UNDEFINED-ERROR}
 
--- an event of a module; from 64 on an event is of none: 64 a request that no module has, 65 cancel-all, 68 data that no module lists
-abbrev pub of : ℕ → ℕ → ℕ
-of who kind = GROUP * who + kind
-
+-- from 64 on an event is of no module: 64 a request that none has, 65 cancel-all, 68 data that none lists
 abbrev pub no-request : ℕ
 no-request = of 4 0
 
@@ -68,6 +67,22 @@ requestEvent (EventContract v) = of EC request
 requestEvent (ModifyEmergency i) = of EM modify
 requestEvent (PeriodicContract a) = of PC request
 requestEvent (ground.the-variants.Abort n) = no-request
+
+-- an interval in seconds
+abbrev pub secondsOf : Interval → ℕ
+secondsOf (Seconds n) = n
+secondsOf (Minutes n) = n * 60
+
+-- the interval that a periodic request asks for; the 5 minutes that it leaves out are in its value. No other request asks for one
+unfoldable pub asksFor : Ground → ℕ
+asksFor CancelAll = 0
+asksFor (CancelContract n) = 0
+asksFor CancelEmergencyAck = 0
+asksFor (DemandContract v) = 0
+asksFor (EventContract v) = 0
+asksFor (ModifyEmergency i) = 0
+asksFor (PeriodicContract a) = secondsOf (a .interval)
+asksFor (ground.the-variants.Abort n) = 0
 
 -- "the PDU's reason if an aircraft provider abort reads well, else 6"
 unfoldable pub reasonIn : Air → ℕ

@@ -1,6 +1,7 @@
 // The abort rule, and the other calls that stop everything.
 use crate::answer::*;
 use crate::record::Link;
+use crate::record::clear;
 use crate::record::is_good;
 use crate::sent::nothing;
 use crate::sent::write;
@@ -17,7 +18,12 @@ fn close(l: Link, entry: u8, reason: u32) -> Answer
     ensures { λ r. ⌜ r ≡ closed l entry reason ⌝ }
 {
     let left = l.left;
-    tell(l, add(stop_all(left, LI_IDLE), entry), reason, nothing())
+    tell(
+        clear(l),
+        add(stop_all(left, LI_IDLE), entry),
+        reason,
+        nothing(),
+    )
 }
 
 // Stops, abort request with the ground provider abort, abort indication, all IDLE.
@@ -28,7 +34,7 @@ pub fn abort(l: Link, reason: u32) -> Answer
     let step = add(add(stop_all(left, LI_IDLE), ABORT_REQUEST), ABORT_IND);
     let w = write(Ground::Abort(reason));
     let sent = w.sent;
-    tell(l, step, reason, sent)
+    tell(clear(l), step, reason, sent)
 }
 
 // Everything stops where it may; where not, the call is refused.

@@ -5,14 +5,7 @@ use pdu::downlink::Air;
 use pdu::uplink::Ground;
 ghost use mathlib.Core.Path.{_≡_};
 ghost use Rattle.link.specs.Tests.{pick};
-ghost use Rattle.ground_answer.specs.Events.{of, negativeEvent, positiveEvent, unmetEvent, airEvent, cancelEvent, requestEvent, reasonIn};
-
-// The first event of each module.
-const OF_EC: u8 = 16;
-
-const OF_PC: u8 = 32;
-
-const OF_EM: u8 = 48;
+ghost use Rattle.ground_answer.specs.Events.{negativeEvent, positiveEvent, unmetEvent, airEvent, cancelEvent, requestEvent, reasonIn};
 
 // No module's: a request that none has, LI's own request, data that none lists.
 const NO_REQUEST: u8 = 64;

@@ -1,6 +1,7 @@
 // A new link.
 use crate::record::Link;
 use crate::record::make;
+use ground_tables::intervals::no_intervals;
 use link::moves::TIMERS;
 use link::watch::settings_ok;
 use refusals::BAD_SETTING;
@@ -18,7 +19,7 @@ pub struct Opened {
 pub fn idle_link(setting: [u32; TIMERS]) -> Link
     ensures { λ r. ⌜ r ≡ fresh setting ⌝ }
 {
-    make(setting, [0; TIMERS], [0; 5])
+    make(setting, [0; TIMERS], [0; 5], no_intervals())
 }
 
 // A link from the nine settings in watch order, each 1..86,400 seconds.

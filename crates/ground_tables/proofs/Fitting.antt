@@ -5,8 +5,9 @@ use Rattle.link.specs.Step.{restAt}
 use Rattle.sides.specs.Tables.{statesOk, apart, nearFits, timerFits, balanced, fits, statesFit, restFits, allFit}
 use Rattle.ground_tables.specs.Moves.{dcRows, contractRows, emRows, groundRows}
 use Rattle.ground_tables.specs.Watch.{groundWatch}
+use Rattle.ground_tables.specs.Intervals.{agrees, answers, intervalRow}
 use Rattle.ground_tables.specs.Tables.{idle, liOk, liBusy, groundAlso, tops, groundTables}
 
 pub ground-fits : T (allFit groundTables)
-unfolding groundAlso allFit statesFit restFits restAt fits balanced apart nearFits timerFits statesOk stateOk runs dcRows contractRows emRows groundRows groundWatch idle liOk liBusy tops groundTables
+unfolding agrees answers intervalRow groundAlso allFit statesFit restFits restAt fits balanced apart nearFits timerFits statesOk stateOk runs dcRows contractRows emRows groundRows groundWatch idle liOk liBusy tops groundTables
 ground-fits = tt

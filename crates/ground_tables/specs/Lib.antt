@@ -1,4 +1,5 @@
 pub mod Names
 pub mod Watch
 pub mod Moves
+pub mod Intervals
 pub mod Tables

@@ -11,6 +11,7 @@ use Rattle.sides.specs.Tables.{Tables}
 use Rattle.ground_tables.specs.Names.{IDLE, DC-ACTIVE, CANCEL, MODIFY, LI-IDLE, LI-START, LI-ACTIVE, LI-END, DC1, DC2, EC1, EC2, PC1, PC2, PC3, EM1, EM2}
 use Rattle.ground_tables.specs.Moves.{groundRows, liTo, liEnd, liOver}
 use Rattle.ground_tables.specs.Watch.{groundWatch}
+use Rattle.ground_tables.specs.Intervals.{intervalRow}
 
 -- all four modules are IDLE
 unfoldable pub idle : List ℕ → Bool
@@ -33,11 +34,11 @@ liBusy at = either (liIs at LI-START) (liIs at LI-ACTIVE)
 unfoldable pub tops : List ℕ
 tops = DC-ACTIVE ∷ CANCEL ∷ CANCEL ∷ MODIFY ∷ LI-END ∷ []
 
--- no module's row moves LI
+-- no module's row moves LI, and PC's rows fit the intervals
 unfoldable pub groundAlso : List ℕ → ℕ → Move → Bool
-groundAlso at e m = not (eqb LI (m .who))
+groundAlso at e m = both (not (eqb LI (m .who))) (intervalRow at e m)
 
--- "A start loads the timer's setting", which no move changes
+-- what a start of PC2 loads changes with the interval in force, by moves of PC alone
 unfoldable pub groundTables : Tables
 groundTables =
     record {
@@ -53,7 +54,7 @@ groundTables =
           ∷ record { may = λ at. liIs at LI-END; does = liOver }
           ∷ [];
       rests = λ li. either (eqb li LI-IDLE) (eqb li LI-ACTIVE);
-      changer = λ t. 5;
+      changer = λ t. pick (eqb t PC2) PC 5;
       nearby = (DC1 ∷ DC2 ∷ []) ∷ (EC1 ∷ EC2 ∷ []) ∷ (PC1 ∷ PC2 ∷ PC3 ∷ []) ∷ (EM1 ∷ EM2 ∷ PC2 ∷ []) ∷ [] ∷ [];
       also = groundAlso;
     }

@@ -1,4 +1,5 @@
-// What DC, EC, PC, EM and LI do at an event, and the watch table. Knows no PDU and no link record.
+// What DC, EC, PC, EM and LI do at an event, the watch table, and the intervals of a periodic contract. Knows no PDU and no link record.
 pub mod decide;
+pub mod intervals;
 pub mod names;
 pub mod watch;

@@ -49,6 +49,13 @@ pub const EM1: u8 = 7;
 
 pub const EM2: u8 = 8;
 
+// the first event of each module behind DC
+pub const OF_EC: u8 = 16;
+
+pub const OF_PC: u8 = 32;
+
+pub const OF_EM: u8 = 48;
+
 // events of DC
 pub const REQUEST: u8 = 0;
 

@@ -17,7 +17,7 @@ use Rattle.ground.specs.declared.call.Call.{Call}
 use Rattle.ground.specs.Runs.{answered, Made, reply, ground}
 use Rattle.ground.proofs.Promises.{refused-still}
 use Rattle.ground.proofs.Demand3.{after-fine}
-use Rattle.host_record.specs.RecordLayout.{linkOf, recordOctets}
+use Rattle.host_record.specs.RecordLayout.{RECORD-OCTETS, linkOf, recordOctets}
 use Rattle.host_record.specs.AnswerLayout.{answerOctets}
 use Rattle.host_record.specs.laws.Back.{record-back}
 use Rattle.host_record.proofs.Puts.{length-record}
@@ -51,7 +51,7 @@ told-still s o a = go (eqb (a .said .refusal) 0) refl
 
 pub host-still : (call : Call) (octets s o : List ℕ) → eqb (hosted call octets s o .number) 0 ≡ false → hosted call octets s o ≡ left (hosted call octets s o .number) s o
 unfolding hosted
-host-still call octets s o = go (eqb (length s) 77)
+host-still call octets s o = go (eqb (length s) RECORD-OCTETS)
   where
     a : Done
     a = told s o (answered (linkOf s) call octets)
@@ -61,9 +61,9 @@ host-still call octets s o = go (eqb (length s) 77)
     go false h = refl
 
 -- ---- "calls on the record's octets are the calls by value": over every sequence of calls, so every promise of the link holds of the host's record
-record-long : (l : Link) → Fine l → length (recordOctets l) ≡ 77
+record-long : (l : Link) → Fine l → length (recordOctets l) ≡ RECORD-OCTETS
 unfolding recordOctets
-record-long l s = length-record (l .setting) (l .left) (l .at) (s .settings) (s .lefts)
+record-long l s = length-record (l .setting) (l .left) (l .at) (l .interval) (s .settings) (s .lefts)
 
 told-link : (l : Link) (c : Made) → told (recordOctets l) (replicate 22 0) (reply l c) .link ≡ recordOctets (reply l c .link)
 unfolding told
@@ -81,7 +81,7 @@ told-link l c = go (eqb (reply l c .said .refusal) 0) refl
 
 host-step : (l : Link) (c : Made) → Fine l → hosted (c .call) (c .octets) (recordOctets l) (replicate 22 0) .link ≡ recordOctets (reply l c .link)
 unfolding hosted
-host-step l c s = rw (eq-eqb (length (recordOctets l)) 77 (record-long l s), record-back l (s .settings) (s .lefts) (s .states)) (told-link l c)
+host-step l c s = rw (eq-eqb (length (recordOctets l)) RECORD-OCTETS (record-long l s), record-back l (s .settings) (s .lefts) (s .states)) (told-link l c)
 
 pub host-run : (l : Link) (cs : List Made) → Fine l → kept (recordOctets l) cs ≡ recordOctets (after ground l cs)
 unfolding kept after

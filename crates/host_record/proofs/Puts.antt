@@ -7,8 +7,9 @@ use lib.ListN.{length, getD, set, drop, length-append, drop-of-length-le}
 use lib.Seq.{sets, sets-eq, drop-cons}
 use borrow.Author.Tests.{eq-eqb, ne-eqb}
 use Rattle.link.specs.Names.{timers}
+use Rattle.ground_tables.specs.declared.intervals.Intervals.{Intervals}
 use Rattle.ground_answer.specs.declared.record.Link.{Link}
-use Rattle.host_record.specs.RecordLayout.{five, recordOctets, saved}
+use Rattle.host_record.specs.RecordLayout.{five, intervalOctets, RECORD-OCTETS, recordOctets, saved}
 use Rattle.octets.specs.Octets.{quad, quads, wordAt, words}
 use Rattle.octets.specs.laws.Numbers.{length-quads}
 
@@ -49,29 +50,32 @@ words-step l s i n =
     ∙ ap (sets l 0) (words-more s i n ∙ ap (words s i) (sym (add-one n)))
 
 -- ---- the whole record
-pub length-record : (a b at : List ℕ) → length a ≡ timers → length b ≡ timers → length (quads a ++ (quads b ++ five at)) ≡ 77
-length-record a b at h k =
-    length-append (quads a) (quads b ++ five at)
-    ∙ omega (arith, length-quads a, length-append (quads b) (five at), length-quads b)
+pub length-record : (a b at : List ℕ) (i : Intervals) → length a ≡ timers → length b ≡ timers
+    → length (quads a ++ (quads b ++ (five at ++ intervalOctets i))) ≡ RECORD-OCTETS
+length-record a b at i h k =
+    let z : List ℕ = five at ++ intervalOctets i in
+    length-append (quads a) (quads b ++ z) ∙ omega (arith, length-quads a, length-append (quads b) z, length-quads b)
 
-pub record-whole : (out a b at : List ℕ) → length out ≡ 77 → length a ≡ timers → length b ≡ timers
-    → sets (sets (sets out 0 (quads a)) 36 (quads b)) 72 (five at) ≡ quads a ++ (quads b ++ five at)
-record-whole out a b at n h k =
-    let whole = quads a ++ (quads b ++ five at) in
-    let e = length-record a b at h k in
+pub record-whole : (out a b at : List ℕ) (i : Intervals) → length out ≡ RECORD-OCTETS → length a ≡ timers → length b ≡ timers
+    → sets (sets (sets (sets out 0 (quads a)) 36 (quads b)) 72 (five at)) 77 (intervalOctets i) ≡ quads a ++ (quads b ++ (five at ++ intervalOctets i))
+record-whole out a b at i n h k =
+    let z : List ℕ = five at ++ intervalOctets i in
+    let whole = quads a ++ (quads b ++ z) in
+    let e = length-record a b at i h k in
     let m : length out ≤ 0 + length whole = omega (arith, e) in
-    sets-append (quads b) (five at) (sets out 0 (quads a)) 36 72 (omega (arith, length-quads b))
-    ∙ sets-append (quads a) (quads b ++ five at) out 0 36 (omega (arith, length-quads a))
+    sets-append (five at) (intervalOctets i) (sets (sets out 0 (quads a)) 36 (quads b)) 72 77 refl
+    ∙ sets-append (quads b) z (sets out 0 (quads a)) 36 72 (omega (arith, length-quads b))
+    ∙ sets-append (quads a) (quads b ++ z) out 0 36 (omega (arith, length-quads a))
     ∙ sets-eq whole out 0 (omega (arith, e))
     ∙ ap (λ (r : List ℕ). whole ++ r) (drop-of-length-le out m)
     ∙ append-nil whole
 
 -- ---- into octets that are a record's, and into others
 module _ (l : Link) (s : List ℕ) where
-  pub saved-record : length s ≡ 77 → saved l s ≡ recordOctets l
+  pub saved-record : length s ≡ RECORD-OCTETS → saved l s ≡ recordOctets l
   unfolding saved
-  saved-record h = rw (eq-eqb (length s) 77 h)
+  saved-record h = rw (eq-eqb (length s) RECORD-OCTETS h)
 
-  pub saved-other : (length s ≡ 77 → ⊥) → saved l s ≡ s
+  pub saved-other : (length s ≡ RECORD-OCTETS → ⊥) → saved l s ≡ s
   unfolding saved
-  saved-other h = rw (ne-eqb (length s) 77 h)
+  saved-other h = rw (ne-eqb (length s) RECORD-OCTETS h)

@@ -10,29 +10,29 @@ use Rattle.ground_answer.specs.declared.fresh.Opened.{Opened}
 use Rattle.ground.specs.declared.call.Call.{Call}
 use Rattle.ground_answer.specs.Fresh.{opened}
 use Rattle.ground.specs.Runs.{answered}
-use Rattle.host_record.specs.RecordLayout.{linkOf, recordOctets}
+use Rattle.host_record.specs.RecordLayout.{RECORD-OCTETS, linkOf, recordOctets}
 use Rattle.host_record.specs.AnswerLayout.{answerOctets}
 use Rattle.link.specs.Names.{timers}
 use Rattle.host_record.specs.Hosting.{hosted, told, Hosts, settingsOf, made, opensInto, Makes}
 
 module _ (call : Call) (octets s o : List ℕ) where
-  pub no-record : (length s ≡ 77 → ⊥) → Hosts (hosted call octets s o) 29 s o
+  pub no-record : (length s ≡ RECORD-OCTETS → ⊥) → Hosts (hosted call octets s o) 29 s o
   unfolding hosted
-  no-record h = rw (ne-eqb (length s) 77 h) (record { number-is = refl; link-is = refl; answer-is = refl })
+  no-record h = rw (ne-eqb (length s) RECORD-OCTETS h) (record { number-is = refl; link-is = refl; answer-is = refl })
 
-  module _ (h : length s ≡ 77) (a : Answer) (e : a ≡ answered (linkOf s) call octets) where
+  module _ (h : length s ≡ RECORD-OCTETS) (a : Answer) (e : a ≡ answered (linkOf s) call octets) where
     pub refused-so : (a .said .refusal ≡ 0 → ⊥) → Hosts (hosted call octets s o) (a .said .refusal) s o
     unfolding hosted told
-    refused-so n = rw (eq-eqb (length s) 77 h, ← e, ne-eqb (a .said .refusal) 0 n) (record { number-is = refl; link-is = refl; answer-is = refl })
+    refused-so n = rw (eq-eqb (length s) RECORD-OCTETS h, ← e, ne-eqb (a .said .refusal) 0 n) (record { number-is = refl; link-is = refl; answer-is = refl })
 
     module _ (n : a .said .refusal ≡ 0) where
       pub no-room : length o < 22 → Hosts (hosted call octets s o) 6 s o
       unfolding hosted told
-      no-room l = rw (eq-eqb (length s) 77 h, ← e, eq-eqb (a .said .refusal) 0 n, lt-ltb (length o) 22 l) (record { number-is = refl; link-is = refl; answer-is = refl })
+      no-room l = rw (eq-eqb (length s) RECORD-OCTETS h, ← e, eq-eqb (a .said .refusal) 0 n, lt-ltb (length o) 22 l) (record { number-is = refl; link-is = refl; answer-is = refl })
 
       pub accepted : 22 ≤ length o → (x y : List ℕ) → x ≡ recordOctets (a .link) → y ≡ sets o 0 (answerOctets (a .said)) → Hosts (hosted call octets s o) 0 x y
       unfolding hosted told
-      accepted l x y p q = rw (eq-eqb (length s) 77 h, ← e, eq-eqb (a .said .refusal) 0 n, le-ltb (length o) 22 l) (record { number-is = refl; link-is = p; answer-is = q })
+      accepted l x y p q = rw (eq-eqb (length s) RECORD-OCTETS h, ← e, eq-eqb (a .said .refusal) 0 n, le-ltb (length o) 22 l) (record { number-is = refl; link-is = p; answer-is = q })
 
 module _ (f s : List ℕ) where
   pub not-all : (length f ≡ timers → ⊥) → Makes (made f s) 3 s
@@ -45,10 +45,10 @@ module _ (f s : List ℕ) where
     not-made n = rw (eq-eqb (length f) timers h, ← e, ne-eqb (o .refusal) 0 n) (record { number-is = refl; link-is = refl })
 
     module _ (n : o .refusal ≡ 0) where
-      pub no-place : (length s ≡ 77 → ⊥) → Makes (made f s) 6 s
+      pub no-place : (length s ≡ RECORD-OCTETS → ⊥) → Makes (made f s) 6 s
       unfolding made opensInto
-      no-place k = rw (eq-eqb (length f) timers h, ← e, eq-eqb (o .refusal) 0 n, ne-eqb (length s) 77 k) (record { number-is = refl; link-is = refl })
+      no-place k = rw (eq-eqb (length f) timers h, ← e, eq-eqb (o .refusal) 0 n, ne-eqb (length s) RECORD-OCTETS k) (record { number-is = refl; link-is = refl })
 
-      pub is-made : length s ≡ 77 → (x : List ℕ) → x ≡ recordOctets (o .link) → Makes (made f s) 0 x
+      pub is-made : length s ≡ RECORD-OCTETS → (x : List ℕ) → x ≡ recordOctets (o .link) → Makes (made f s) 0 x
       unfolding made opensInto
-      is-made k x p = rw (eq-eqb (length f) timers h, ← e, eq-eqb (o .refusal) 0 n, eq-eqb (length s) 77 k) (record { number-is = refl; link-is = p })
+      is-made k x p = rw (eq-eqb (length f) timers h, ← e, eq-eqb (o .refusal) 0 n, eq-eqb (length s) RECORD-OCTETS k) (record { number-is = refl; link-is = p })

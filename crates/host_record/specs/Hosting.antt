@@ -12,7 +12,7 @@ use Rattle.ground_answer.specs.declared.fresh.Opened.{Opened}
 use Rattle.ground.specs.declared.call.Call.{Call}
 use Rattle.ground_answer.specs.Fresh.{opened}
 use Rattle.ground.specs.Runs.{answered, Made}
-use Rattle.host_record.specs.RecordLayout.{linkOf, recordOctets}
+use Rattle.host_record.specs.RecordLayout.{RECORD-OCTETS, linkOf, recordOctets}
 use Rattle.host_record.specs.AnswerLayout.{answerOctets}
 use Rattle.refusals.specs.Refusals.{BAD-RECORD, BAD-SETTING, NO-ROOM}
 
@@ -33,9 +33,9 @@ told s o a =
     (pick (ltb (length o) 22) (left NO-ROOM s o) (record { number = 0; link = recordOctets (a .link); answer = sets o 0 (answerOctets (a .said)) }))
     (left (a .said .refusal) s o)
 
--- the call by value on the record that the octets spell; other than 77 octets are no record: 29
+-- the call by value on the record that the octets spell; other lengths are no record: 29
 unfoldable pub hosted : Call → List ℕ → List ℕ → List ℕ → Done
-hosted call octets s o = pick (eqb (length s) 77) (told s o (answered (linkOf s) call octets)) (left BAD-RECORD s o)
+hosted call octets s o = pick (eqb (length s) RECORD-OCTETS) (told s o (answered (linkOf s) call octets)) (left BAD-RECORD s o)
 
 -- the record after a sequence of calls, each with room for its answer
 unfoldable pub kept : List ℕ → List Made → List ℕ
@@ -59,7 +59,7 @@ pub record Opening : Type 0 where
 unfoldable pub opensInto : List ℕ → Opened → Opening
 opensInto s o =
     pick (eqb (o .refusal) 0)
-    (pick (eqb (length s) 77) (record { number = 0; link = recordOctets (o .link) }) (record { number = NO-ROOM; link = s }))
+    (pick (eqb (length s) RECORD-OCTETS) (record { number = 0; link = recordOctets (o .link) }) (record { number = NO-ROOM; link = s }))
     (record { number = o .refusal; link = s })
 
 -- other than nine settings: 3

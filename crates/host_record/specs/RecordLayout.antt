@@ -5,7 +5,8 @@ use lib.Dec.{eqb}
 use lib.ListN.{length, getD}
 use Rattle.link.specs.Tests.{pick}
 use Rattle.link.specs.Names.{timers}
-use Rattle.octets.specs.Octets.{quads, words}
+use Rattle.octets.specs.Octets.{quads, wordAt, words}
+use Rattle.ground_tables.specs.declared.intervals.Intervals.{Intervals}
 use Rattle.ground_answer.specs.Record.{made}
 use Rattle.ground_answer.specs.declared.record.Link.{Link}
 
@@ -13,14 +14,23 @@ use Rattle.ground_answer.specs.declared.record.Link.{Link}
 abbrev pub five : List ℕ → List ℕ
 five at = getD at 0 0 ∷ getD at 1 0 ∷ getD at 2 0 ∷ getD at 3 0 ∷ getD at 4 0 ∷ []
 
--- 0 to 35 the nine settings in watch order; 36 to 71 the seconds left; 72 to 76 the states of DC, EC, PC, EM and LI
+-- the interval asked for, and the one in force
+abbrev pub intervalOctets : Intervals → List ℕ
+intervalOctets i = quads (i .asked ∷ i .force ∷ [])
+
+abbrev pub RECORD-OCTETS : ℕ
+RECORD-OCTETS = 85
+
+-- 0 to 35 the nine settings in watch order; 36 to 71 the seconds left; 72 to 76 the states of DC, EC, PC, EM and LI; 77 to 84 the intervals
 unfoldable pub recordOctets : Link → List ℕ
-recordOctets l = quads (l .setting) ++ (quads (l .left) ++ five (l .at))
+recordOctets l = quads (l .setting) ++ (quads (l .left) ++ (five (l .at) ++ intervalOctets (l .interval)))
 
 -- and back; octets that are not there are 0
 unfoldable pub linkOf : List ℕ → Link
-linkOf s = made (words s 0 timers) (words s 36 timers) (getD s 72 0 ∷ getD s 73 0 ∷ getD s 74 0 ∷ getD s 75 0 ∷ getD s 76 0 ∷ [])
+linkOf s =
+    made (words s 0 timers) (words s 36 timers) (getD s 72 0 ∷ getD s 73 0 ∷ getD s 74 0 ∷ getD s 75 0 ∷ getD s 76 0 ∷ [])
+    (record { asked = wordAt s 77; force = wordAt s 81 })
 
--- a record into the octets of one; other than 77 octets are no record, and stay
+-- a record into the octets of one; other lengths are no record, and stay
 unfoldable pub saved : Link → List ℕ → List ℕ
-saved l s = pick (eqb (length s) 77) (recordOctets l) s
+saved l s = pick (eqb (length s) RECORD-OCTETS) (recordOctets l) s

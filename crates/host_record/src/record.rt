@@ -1,9 +1,11 @@
-// The link record in 77 octets, for a host that keeps it in its own memory.
+// The link record in 85 octets, for a host that keeps it in its own memory.
 use crate::put::put_words;
 use ground_answer::record::Link;
 use ground_answer::record::make;
+use ground_tables::intervals::Intervals;
 use link::moves::TIMERS;
 use octets::octet;
+use octets::put_word;
 use octets::read_word;
 ghost use mathlib.Core.Path.{_≡_};
 ghost use Prim.Native.Nat.{_≤_};
@@ -11,9 +13,9 @@ ghost use lib.ListN.{length};
 ghost use lib.Seq.{sets};
 ghost use Rattle.link.specs.Names.{timers};
 ghost use Rattle.octets.specs.Octets.{words};
-ghost use Rattle.host_record.specs.RecordLayout.{five, linkOf, recordOctets, saved};
+ghost use Rattle.host_record.specs.RecordLayout.{five, intervalOctets, RECORD-OCTETS, linkOf, recordOctets, saved};
 
-pub const RECORD: usize = 77;
+pub const RECORD: usize = 85;
 
 fn words_at(s: &[u8], at: usize) -> [u32; TIMERS]
     requires { ⌜ at ≤ 36 ⌝ }
@@ -41,11 +43,15 @@ pub fn load(s: &[u8]) -> Link
         octet(s, 75),
         octet(s, 76),
     ];
-    make(setting, left, at)
+    let interval = Intervals {
+        asked: read_word(s, 77),
+        force: read_word(s, 81),
+    };
+    make(setting, left, at, interval)
 }
 
 fn put_states(out: &mut [u8], at: [u8; 5])
-    requires { ⌜ length (now out) ≡ 77 ⌝ }
+    requires { ⌜ length (now out) ≡ RECORD-OCTETS ⌝ }
     ensures { λ _. ⌜ now (out .exit) ≡ sets (now (out .entry)) 72 (five at) ⌝ }
 {
     out[72] = at[0];
@@ -55,16 +61,25 @@ fn put_states(out: &mut [u8], at: [u8; 5])
     out[76] = at[4];
 }
 
+fn put_intervals(out: &mut [u8], i: Intervals)
+    ensures { λ _. ⌜ now (out .exit) ≡ sets (now (out .entry)) 77 (intervalOctets i) ⌝ }
+{
+    put_word(out, 77, i.asked);
+    put_word(out, 81, i.force);
+}
+
 fn store(l: Link, out: &mut [u8])
-    requires { ⌜ length (now out) ≡ 77 ⌝ }
+    requires { ⌜ length (now out) ≡ RECORD-OCTETS ⌝ }
     ensures { λ _. ⌜ now (out .exit) ≡ recordOctets l ⌝ }
 {
     let setting = l.setting;
     let left = l.left;
     let at = l.at;
+    let interval = l.interval;
     put_words(out, 0, setting);
     put_words(out, 36, left);
     put_states(out, at);
+    put_intervals(out, interval);
 }
 
 // Octets that are no record's stay.

@@ -19,12 +19,12 @@ unfolding runs groundWatch
 pc2-runs at p q = rw (p, q)
 
 -- the desk's answer follows from demand 3 as it stands on the page: from less of it, it would not
-pub desk : Timers → Desk
-desk d s h before p q cs u n most reach octets =
+follows : Timers → Desk
+follows d s h before p q cs u n most reach octets =
     let on = pc2-runs (played s before .at) p q in
     let lt : PC2 < timers = lit< tt in
     d .expires s h before PC2 lt (getD (played s before .left) PC2 0) (d .at-least-one s h before PC2 lt on) refl cs u n most
     (omega (arith, d .no-more s h before PC2 lt on, reach)) octets
 
-pub answer : Desk
-answer = desk timers-hold
+pub desk : Desk
+desk = follows timers-hold

@@ -4,3 +4,4 @@ pub mod Calls
 pub mod Clock
 pub mod Timers
 pub mod Desk
+pub mod KeptIntervals

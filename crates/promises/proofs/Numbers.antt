@@ -164,7 +164,7 @@ on-taken : (l : Link) (r : per.Answer AirPdu) → OnA (taken l r)
 unfolding taken passed ended aborted
 on-taken l (got a) =
     let e = airEvent (a .kind) in
-    on-pick (eqb (moveAt l LI-ACTIVE e .fate) GOES) (on-pick (idle (went l LI-ACTIVE e DATA-REQUEST .at)) (ok tt) (ok tt)) (ok tt)
+    on-pick (eqb (moveAt l LI-ACTIVE e .fate) GOES) (on-pick (idle (went l LI-ACTIVE e 0 DATA-REQUEST .at)) (ok tt) (ok tt)) (ok tt)
 on-taken l (refused n) = ok tt
 
 on-asked : (l : Link) (g : Ground) (li entry : ℕ) → OnA (asked l g li entry)

@@ -1,5 +1,5 @@
 -- Demand 3, from the theorems of `ground`. Assumes nothing.
-use mathlib.Core.Path.{_≡_, refl, ap, _∙_}
+use mathlib.Core.Path.{_≡_}
 use mathlib.Core.Bool.{true, false}
 use mathlib.Core.List.{List}
 use Prim.Native.Nat.{ℕ, _≤_, _<_}
@@ -13,11 +13,11 @@ use Rattle.link.proofs.Laws.{both-T, below-all, eq-T}
 use Rattle.ground_tables.specs.Names.{ACTIVE, EC1, EC2}
 use Rattle.ground_tables.specs.Watch.{groundWatch}
 use Rattle.ground_tables.specs.Tables.{groundTables}
-use Rattle.ground_answer.specs.Record.{loads, fresh}
+use Rattle.ground_answer.specs.Record.{loads}
 use Rattle.ground.specs.Runs.{Made}
-use Rattle.ground.proofs.Promises.{settings-stay}
+use Rattle.ground.proofs.Promises.{loads-most, intervals-held}
 use Rattle.ground.proofs.Demand3.{demand3-first, demand3-second, event-contract-no-clock}
-use Rattle.promises.specs.Timers.{Settings, played, Timers}
+use Rattle.promises.specs.Timers.{Settings, played, ceiling, Timers}
 
 good-settings : (s : List ℕ) → Settings s → T (below timers (settingOk s))
 unfolding settingOk
@@ -25,20 +25,13 @@ good-settings s h =
     below-all timers (λ t. both (leb 1 (getD s t 0)) (leb (getD s t 0) 86400))
     (λ t lt. both-T (leb 1 (getD s t 0)) (leb (getD s t 0) 86400) (eq-T _ (le-leb 1 (getD s t 0) (h .least t lt))) (eq-T _ (le-leb (getD s t 0) 86400 (h .most t lt))))
 
-setting-same : (s : List ℕ) (cs : List Made) (t : ℕ) → getD (loads (played s cs)) t 0 ≡ getD s t 0
-unfolding loads fresh
-setting-same s cs t = ap (λ (x : List ℕ). getD x t 0) (settings-stay (fresh s) cs ∙ made-with s)
-  where
-    made-with : (x : List ℕ) → fresh x .setting ≡ x
-    made-with x = refl
-
 module _ (s : List ℕ) (h : Settings s) where
   abbrev ok : T (below timers (settingOk s))
   ok = good-settings s h
 
-  running : (cs : List Made) (t : ℕ) → t < timers → runs groundWatch t (played s cs .at) ≡ true → (1 ≤ getD (played s cs .left) t 0) × (getD (played s cs .left) t 0 ≤ getD s t 0)
+  running : (cs : List Made) (t : ℕ) → t < timers → runs groundWatch t (played s cs .at) ≡ true → (1 ≤ getD (played s cs .left) t 0) × (getD (played s cs .left) t 0 ≤ ceiling s (played s cs) t)
   unfolding groundTables
-  running cs t lt on = let w = demand3-first s (h .nine) ok cs t lt .runs-left on in (w .0, rw (setting-same s cs t) at (w .1))
+  running cs t lt on = let w = demand3-first s (h .nine) ok cs t lt .runs-left on in (w .0, rw (loads-most s (h .nine) ok cs t) at (w .1))
 
   resting : (cs : List Made) (t : ℕ) → t < timers → runs groundWatch t (played s cs .at) ≡ false → getD (played s cs .left) t 0 ≡ 0
   unfolding groundTables
@@ -53,5 +46,6 @@ timers-hold = record {
   no-more = λ s h cs t lt on. running s h cs t lt on .1;
   no-other = resting;
   expires = λ s h. demand3-second s (h .nine) (good-settings s h);
+  intervals = λ s h. intervals-held s (h .nine) (good-settings s h);
   no-clock = silent-event;
 }

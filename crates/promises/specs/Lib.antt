@@ -1,3 +1,4 @@
 pub mod Messages
 pub mod Calls
 pub mod Timers
+pub mod Intervals

@@ -3,12 +3,15 @@ use mathlib.Core.Path.{_≡_}
 use mathlib.Core.Bool.{true, false}
 use mathlib.Core.List.{List}
 use Prim.Native.Nat.{ℕ, _+_, _≤_, _<_}
+use lib.Dec.{T, eqb}
 use lib.ListN.{length, getD}
 use Rattle.link.specs.Names.{timers, EC, PC, EM}
+use Rattle.link.specs.Tests.{pick}
 use Rattle.link.specs.Watch.{runs}
 use Rattle.sides.specs.Runs.{after, total, Untouched}
 use Rattle.ground_tables.specs.Names.{IDLE, ACTIVE, EC1, EC2, PC2}
 use Rattle.ground_tables.specs.Watch.{groundWatch}
+use Rattle.ground_tables.specs.Intervals.{intervalsOk}
 use Rattle.ground_answer.specs.Record.{fresh}
 use Rattle.ground_answer.specs.Aborts.{aborted}
 use Rattle.ground_answer.specs.Reasons.{TIMER-EXPIRY}
@@ -26,24 +29,31 @@ pub record Settings (s : List ℕ) : Type 0 where
 abbrev pub played : List ℕ → List Made → Link
 played s cs = after ground (fresh s) cs
 
+-- what a timer may have left at the most: its setting, and for PC2 "no more than interval plus grace" (02, L2)
+abbrev pub ceiling : List ℕ → Link → ℕ → ℕ
+ceiling s l t = getD s t 0 + pick (eqb t PC2) (l .interval .force) 0
+
 pub record Timers : Type 0 where
   -- "the running timers are exactly those the watch table names for the present states, each with at least one second left and no more than its setting"
   pub at-least-one : (s : List ℕ) → Settings s → (cs : List Made) (t : ℕ) → t < timers → runs groundWatch t (played s cs .at) ≡ true → 1 ≤ getD (played s cs .left) t 0
   pub no-more : (s : List ℕ) → Settings s → (cs : List Made) (t : ℕ) → t < timers → runs groundWatch t (played s cs .at) ≡ true
-      → getD (played s cs .left) t 0 ≤ getD s t 0
+      → getD (played s cs .left) t 0 ≤ ceiling s (played s cs) t
   pub no-other : (s : List ℕ) → Settings s → (cs : List Made) (t : ℕ) → t < timers → runs groundWatch t (played s cs .at) ≡ false → getD (played s cs .left) t 0 ≡ 0
   -- "If a timer has k seconds left, and no call starts or stops it before its accepted elapsed seconds first total k or more, then the call that gets there
   -- aborts the link": the calls cs come first, and then the elapse of n seconds that gets there
   pub expires : (s : List ℕ) → Settings s → (before : List Made) (t : ℕ) → t < timers → (k : ℕ) → 1 ≤ k → getD (played s before .left) t 0 ≡ k
       → (cs : List Made) → Untouched ground t (played s before) cs → (n : ℕ) → n ≤ 86400 → k ≤ total ground (played s before) cs + n → (octets : List ℕ)
       → answered (after ground (played s before) cs) (Elapse n) octets ≡ aborted (after ground (played s before) cs) TIMER-EXPIRY
+  -- no "interval missing from its state, foreign to it, or over 7,200" comes about
+  pub intervals : (s : List ℕ) → Settings s → (cs : List Made) → T (intervalsOk (getD (played s cs .at) PC 0) (played s cs .interval))
   -- "An event contract in force has no clock"
   pub no-clock : (s : List ℕ) → Settings s → (cs : List Made) → getD (played s cs .at) EC 0 ≡ ACTIVE
       → (getD (played s cs .left) EC1 0 ≡ 0) × (getD (played s cs .left) EC2 0 ≡ 0)
 
 -- The desk's question, "If the periodic report stops coming, how long does your box go on showing me the last one?" With a periodic contract in force and no
--- emergency: until PC2's setting has elapsed. The elapse that gets there aborts the link
+-- emergency: until the interval in force and PC2's setting, its grace, have elapsed. The elapse that gets there aborts the link
 abbrev pub Desk : Type 0
 Desk = (s : List ℕ) → Settings s → (before : List Made) → getD (played s before .at) PC 0 ≡ ACTIVE → getD (played s before .at) EM 0 ≡ IDLE
-    → (cs : List Made) → Untouched ground PC2 (played s before) cs → (n : ℕ) → n ≤ 86400 → getD s PC2 0 ≤ total ground (played s before) cs + n → (octets : List ℕ)
+    → (cs : List Made) → Untouched ground PC2 (played s before) cs → (n : ℕ) → n ≤ 86400
+    → played s before .interval .force + getD s PC2 0 ≤ total ground (played s before) cs + n → (octets : List ℕ)
     → answered (after ground (played s before) cs) (Elapse n) octets ≡ aborted (after ground (played s before) cs) TIMER-EXPIRY

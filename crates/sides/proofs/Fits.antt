@@ -111,7 +111,7 @@ not-eq : (x : Bool) → T (not x) → x ≡ false
 not-eq true t = absurd t
 not-eq false t = refl
 
-same-eq : (a b : Bool) → T (same a b) → a ≡ b
+pub same-eq : (a b : Bool) → T (same a b) → a ≡ b
 same-eq true true t = refl
 same-eq true false t = absurd t
 same-eq false true t = absurd t

@@ -1,5 +1,5 @@
 use Rattle.ground.specs.Arrivals.{passed}
-use Rattle.ground_answer.specs.Record.{went}
+use Rattle.ground_answer.specs.Record.{agreedAt, went}
 use Rattle.ground.proofs.Moving.{decided}
 use mathlib.Core.Path.{refl}
 use borrow.Author.Tests.{eq-eqb, ne-eqb}
@@ -17,8 +17,11 @@ abort-requires : tie.Need-abort-requires
 abort-requires c κs = search needs
 
 returns : tie.Need-returns
-unfolding passed went
+unfolding passed
 returns c = rw (decided _ _ (c .before .before .before .before .turn .ensures) refl (c .before .before .decide .ensures), ne-eqb _ 0 (c .before .if1 .taken)) (c .abort .ensures)
+
+agree-on-requires : tie.Need-agree-on-requires
+agree-on-requires c κs = search needs
 
 most-of-requires : tie.Need-most-of-requires
 most-of-requires c κs = search needs
@@ -33,8 +36,8 @@ end-requires : tie.Need-end-requires
 end-requires c κs = search needs
 
 returns-2 : tie.Need-returns-2
-unfolding passed went
-returns-2 c = rw (decided _ _ (c .before .before .before .before .before .before .before .turn .ensures) refl (c .before .before .before .before .before .decide .ensures), eq-eqb _ 0 (c .before .before .before .before .if1 .left), c .end .ensures, c .before .ack-of .ensures, c .before .before .perform .ensures, c .before .before .before .most-of .ensures, c .before .before .before .before .before .before .before .turn .ensures)
+unfolding passed agreedAt went
+returns-2 c = rw (decided _ _ (c .before .before .before .before .before .before .before .before .turn .ensures) refl (c .before .before .before .before .before .before .decide .ensures), eq-eqb _ 0 (c .before .before .before .before .before .if1 .left), c .end .ensures, c .before .ack-of .ensures, c .before .before .perform .ensures, c .before .before .before .most-of .ensures, c .before .before .before .before .agree-on .ensures, c .before .before .before .before .before .before .before .before .turn .ensures)
 
 pub pass-spec : {M : Type 1} → statement M
 pass-spec =
@@ -44,6 +47,7 @@ pass-spec =
     decide-requires
     abort-requires
     returns
+    agree-on-requires
     most-of-requires
     perform-requires
     ack-of-requires

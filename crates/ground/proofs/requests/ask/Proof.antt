@@ -1,5 +1,5 @@
 use Rattle.ground.specs.Requests.{asked}
-use Rattle.ground_answer.specs.Record.{went}
+use Rattle.ground_answer.specs.Record.{agreedAt, went}
 use Rattle.ground.proofs.Moving.{decided}
 use borrow.Author.Tests.{eq-eqb, ne-eqb}
 use borrow.Author.Needs.{needs}
@@ -19,7 +19,7 @@ refuse-requires : tie.Need-refuse-requires
 refuse-requires c κs = search needs
 
 returns : tie.Need-returns
-unfolding asked went
+unfolding asked
 returns c = rw (decided _ _ (c .before .before .before .before .before .turn .ensures) (c .before .before .before .request-event .ensures) (c .before .before .decide .ensures), ne-eqb _ 0 (c .before .if1 .taken)) (c .refuse .ensures)
 
 write-requires : tie.Need-write-requires
@@ -29,8 +29,14 @@ refuse-requires-2 : tie.Need-refuse-requires-2
 refuse-requires-2 c κs = search needs
 
 returns-2 : tie.Need-returns-2
-unfolding asked went
+unfolding asked
 returns-2 c = rw (decided _ _ (c .before .before .before .before .before .before .before .turn .ensures) (c .before .before .before .before .before .request-event .ensures) (c .before .before .before .before .decide .ensures), eq-eqb _ 0 (c .before .before .before .if1 .left), ← c .before .before .write .ensures, ne-eqb _ 0 (c .before .if2 .taken)) (c .refuse2 .ensures)
+
+asks-for-requires : tie.Need-asks-for-requires
+asks-for-requires c κs = rw (← c .before .before .write .ensures) (c .before .if2 .left)
+
+agree-on-requires : tie.Need-agree-on-requires
+agree-on-requires c κs = search needs
 
 most-of-requires : tie.Need-most-of-requires
 most-of-requires c κs = search needs
@@ -42,9 +48,8 @@ tell-requires : tie.Need-tell-requires
 tell-requires c κs = search needs
 
 returns-3 : tie.Need-returns-3
-unfolding asked went
-returns-3 c =
-    rw (decided _ _ (c .before .before .before .before .before .before .before .before .before .before .turn .ensures) (c .before .before .before .before .before .before .before .before .request-event .ensures) (c .before .before .before .before .before .before .before .decide .ensures), eq-eqb _ 0 (c .before .before .before .before .before .before .if1 .left), ← c .before .before .before .before .before .write .ensures, eq-eqb _ 0 (c .before .before .before .before .if2 .left), c .tell .ensures, c .before .perform .ensures, c .before .before .most-of .ensures, c .before .before .before .before .before .before .before .before .before .before .turn .ensures)
+unfolding asked agreedAt went
+returns-3 c = rw (decided _ _ (c .before .before .before .before .before .before .before .before .before .before .before .before .turn .ensures) (c .before .before .before .before .before .before .before .before .before .before .request-event .ensures) (c .before .before .before .before .before .before .before .before .before .decide .ensures), eq-eqb _ 0 (c .before .before .before .before .before .before .before .before .if1 .left), ← c .before .before .before .before .before .before .before .write .ensures, eq-eqb _ 0 (c .before .before .before .before .before .before .if2 .left), c .tell .ensures, c .before .perform .ensures, c .before .before .most-of .ensures, c .before .before .before .agree-on .ensures, c .before .before .before .before .asks-for .ensures, c .before .before .before .before .before .before .before .before .before .before .request-event .ensures, c .before .before .before .before .before .before .before .before .before .before .before .before .turn .ensures)
 
 pub ask-spec : {M : Type 1} → statement M
 ask-spec =
@@ -58,6 +63,8 @@ ask-spec =
     write-requires
     refuse-requires-2
     returns-2
+    asks-for-requires
+    agree-on-requires
     most-of-requires
     perform-requires
     tell-requires

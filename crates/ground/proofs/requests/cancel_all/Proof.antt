@@ -28,6 +28,9 @@ returns-2 c = rw (sym (c .before .before .before .before .is-good .ensures) ∙ 
 write-requires : tie.Need-write-requires
 write-requires c κs = search needs
 
+clear-requires : tie.Need-clear-requires
+clear-requires c κs = search needs
+
 stop-all-requires : tie.Need-stop-all-requires
 stop-all-requires c κs = search needs
 
@@ -45,8 +48,7 @@ tell-requires c κs = search needs
 
 returns-3 : tie.Need-returns-3
 unfolding allCancelled cancelled
-returns-3 c =
-    rw (sym (c .before .before .before .before .before .before .before .before .before .before .before .is-good .ensures) ∙ not-false _ (c .before .before .before .before .before .before .before .before .before .before .if1 .left), eq-eqb _ 2 (c .before .before .before .before .before .before .before .before .if2 .left), c .tell .ensures, c .before .before .before .before .before .before .write .ensures, c .before .perform .ensures, c .before .before .most-of .ensures, c .before .before .before .li-end .ensures, c .before .before .before .before .stop-all .ensures)
+returns-3 c = rw (sym (c .before .before .before .before .before .before .before .before .before .before .before .before .is-good .ensures) ∙ not-false _ (c .before .before .before .before .before .before .before .before .before .before .before .if1 .left), eq-eqb _ 2 (c .before .before .before .before .before .before .before .before .before .if2 .left), c .tell .ensures, c .before .before .before .before .before .before .before .write .ensures, c .before .perform .ensures, c .before .before .most-of .ensures, c .before .before .before .li-end .ensures, c .before .before .before .before .stop-all .ensures, c .before .before .before .before .before .clear .ensures)
 
 pub cancel-all-spec : {M : Type 1} → statement M
 cancel-all-spec =
@@ -59,6 +61,7 @@ cancel-all-spec =
     refuse-requires-2
     returns-2
     write-requires
+    clear-requires
     stop-all-requires
     li-end-requires
     most-of-requires

@@ -15,14 +15,24 @@ add-requires-2 c κs = search needs
 write-requires : tie.Need-write-requires
 write-requires c κs = search needs
 
+clear-requires : tie.Need-clear-requires
+clear-requires c κs = search needs
+
 tell-requires : tie.Need-tell-requires
 tell-requires c κs = search needs
 
 returns : tie.Need-returns
 unfolding aborted
-returns c = rw (c .tell .ensures, c .before .before .write .ensures, c .before .before .before .add2 .ensures, c .before .before .before .before .add .ensures, c .before .before .before .before .before .stop-all .ensures)
+returns c = rw (c .tell .ensures, c .before .clear .ensures, c .before .before .before .write .ensures, c .before .before .before .before .add2 .ensures, c .before .before .before .before .before .add .ensures, c .before .before .before .before .before .before .stop-all .ensures)
 
 pub abort-spec : {M : Type 1} → statement M
 abort-spec =
     tie.close
-    (tie.spec stop-all-requires add-requires add-requires-2 write-requires tell-requires returns)
+    (tie.spec
+    stop-all-requires
+    add-requires
+    add-requires-2
+    write-requires
+    clear-requires
+    tell-requires
+    returns)

@@ -24,20 +24,18 @@ octet-requires-4 c κs = search needs
 octet-requires-5 : tie.Need-octet-requires-5
 octet-requires-5 c κs = search needs
 
+read-word-requires : tie.Need-read-word-requires
+read-word-requires c κs = search needs
+
+read-word-requires-2 : tie.Need-read-word-requires-2
+read-word-requires-2 c κs = search needs
+
 make-requires : tie.Need-make-requires
 make-requires c κs = search needs
 
 returns : tie.Need-returns
 unfolding linkOf
-returns c =
-    let p0 = c .before in
-    let p1 = p0 .before in
-    let p2 = p1 .before in
-    let p3 = p2 .before in
-    let p4 = p3 .before in
-    let p5 = p4 .before in
-    let p6 = p5 .before in
-    rw (c .make .ensures, p6 .words-at .ensures, p5 .words-at2 .ensures, p4 .octet .ensures, p3 .octet2 .ensures, p2 .octet3 .ensures, p1 .octet4 .ensures, p0 .octet5 .ensures)
+returns c = rw (c .make .ensures, c .before .before .before .before .before .before .before .before .before .words-at .ensures, c .before .before .before .before .before .before .before .before .words-at2 .ensures, c .before .before .before .before .before .before .before .octet .ensures, c .before .before .before .before .before .before .octet2 .ensures) (rw (c .before .before .before .before .before .octet3 .ensures, c .before .before .before .before .octet4 .ensures, c .before .before .before .octet5 .ensures, c .before .before .read-word .ensures, c .before .read-word2 .ensures))
 
 pub load-spec : {M : Type 1} → statement M
 load-spec =
@@ -50,5 +48,7 @@ load-spec =
     octet-requires-3
     octet-requires-4
     octet-requires-5
+    read-word-requires
+    read-word-requires-2
     make-requires
     returns)

@@ -16,6 +16,9 @@ put-words-requires-2 c κs = search needs
 put-states-requires : tie.Need-put-states-requires
 put-states-requires c κs = search needs
 
+put-intervals-requires : tie.Need-put-intervals-requires
+put-intervals-requires c κs = search needs
+
 same-length : tie.Need-same-length
 same-length c = search needs
 
@@ -31,11 +34,19 @@ returns c =
     let p = c .before .before in
     let q = p .before .before .before .before in
     let r = q .before .before .before .before in
-    let b = r .before .before .before .before .before .before in
+    let o = r .before .before .before .before in
+    let b = o .before .before .before .before .before .before .before in
     let l = b .args .l in
-    p .put-states .ensures ∙ rw (q .put-words2 .ensures, r .put-words .ensures) (record-whole (b .args .out .now) (l .setting) (l .left) (l .at) (b .pre) (long b) (wide b))
+    p .put-intervals .ensures
+    ∙ rw (q .put-states .ensures, r .put-words2 .ensures, o .put-words .ensures) (record-whole (b .args .out .now) (l .setting) (l .left) (l .at) (l .interval) (b .pre) (long b) (wide b))
 
 pub store-spec : {M : Type 1} → statement M
 store-spec =
     tie.close
-    (tie.spec put-words-requires put-words-requires-2 put-states-requires same-length returns)
+    (tie.spec
+    put-words-requires
+    put-words-requires-2
+    put-states-requires
+    put-intervals-requires
+    same-length
+    returns)
