@@ -12,7 +12,8 @@ REPORTS = ['demand report', 'emergency report', 'event report', 'periodic report
 CONTRACTS = ['demand contract', 'event contract', 'periodic contract']
 # At most so many instructions for one of asn1c.
 GOALS = ([('read', group, 0.08) for group in REPORTS + ['report, all elements'] + CONTRACTS] + [('read', 'negative ack, 16 names', 0.2)]
-         + [('write', group, 0.4) for group in REPORTS])
+         + [('write', group, 0.22) for group in REPORTS + ['report, all elements']] + [('write', group, 0.35) for group in CONTRACTS]
+         + [('write', 'negative ack, 16 names', 0.9)])
 
 
 def run(before, mode):

@@ -7,6 +7,7 @@ pub mod Compose
 pub mod Within
 pub mod RoundTrip
 pub mod Longest
+pub mod Parts
 pub mod Puts
 pub mod Inks
 pub mod SignedWrite

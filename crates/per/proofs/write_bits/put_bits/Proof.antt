@@ -1,67 +1,56 @@
-use Prim.Native.Nat.{_-_, _/_, _^_, _≤_, _<_}
-use mathlib.Core.Path.{_≡_, _∙_}
+use mathlib.Core.Path.{refl}
+use native.Mathlib.Nat.{div-add-mod'}
 use native.Mathlib.Omega.{arith}
-use Rattle.per.specs.Bits.{toBits}
-use Rattle.per.specs.Writing.{putBits}
-use Rattle.per.proofs.Puts.{put-past, put-none, put-step, put-all}
+use Rattle.per.proofs.Puts.{put-past, put-two}
+use borrow.Author.Needs.{needs}
 use Rattle.per.proofs.write_bits.put_bits.Statement.{statement}
 use Rattle.per.proofs.write_bits.put_bits.Tie as tie
 
-abbrev Inv-loop : tie.InvT-loop
-Inv-loop out₀ at w v x i₀ out i = (i ≤ w) × (out ≡ putBits out₀ at (toBits i (v / 2 ^ (w - i))))
-
-abbrev μ-loop : tie.MeasureT-loop
-μ-loop out₀ at w v x i₀ out i = w - i
-
-returns : tie.Need-returns Inv-loop μ-loop
+returns : tie.Need-returns
 returns c = put-past _ _ _ (c .if1 .taken)
 
-loop-holds : tie.Need-loop-holds Inv-loop μ-loop
-loop-holds c = (omega arith, put-none _ _ _)
+add-t : tie.Need-add-t
+add-t c = search needs
 
-sub-k : tie.Need-sub-k Inv-loop μ-loop
-sub-k c = omega arith
+put-in-requires : tie.Need-put-in-requires
+put-in-requires c κs = search needs
 
-sub-k-2 : tie.Need-sub-k-2 Inv-loop μ-loop
-sub-k-2 c = omega arith
+returns-2 : tie.Need-returns-2
+returns-2 c = rw div-add-mod' at (c .put-in .ensures)
 
-add-set-bit : tie.Need-add-set-bit Inv-loop μ-loop
-add-set-bit c = omega arith
+sub-r : tie.Need-sub-r
+sub-r c = search needs
 
-shr-set-bit : tie.Need-shr-set-bit Inv-loop μ-loop
-shr-set-bit c = omega arith
+shr-high : tie.Need-shr-high
+shr-high c = search needs
 
-set-bit-requires : tie.Need-set-bit-requires Inv-loop μ-loop
-set-bit-requires c κs = omega arith
+sub-put-in : tie.Need-sub-put-in
+sub-put-in c = search needs
 
-add-i : tie.Need-add-i Inv-loop μ-loop
-add-i c = omega arith
+put-in-requires-2 : tie.Need-put-in-requires-2
+put-in-requires-2 c κs = search needs
 
-loop-less : tie.Need-loop-less Inv-loop μ-loop
-loop-less c = omega arith
+add-put-octets : tie.Need-add-put-octets
+add-put-octets c = search needs
 
-loop-again : tie.Need-loop-again Inv-loop μ-loop
-loop-again c =
-    let l : c .before .before .before .loop .i < c .before .before .before .before .before .args .w = omega arith in
-    (omega arith, rw (c .set-bit .ensures, c .before .before .before .loop .inv .1) (put-step _ _ _ _ _ l))
+put-octets-requires : tie.Need-put-octets-requires
+put-octets-requires c κs = search needs
 
-returns-2 : tie.Need-returns-2 Inv-loop μ-loop
-returns-2 c = c .before .loop .inv .1 ∙ put-all _ _ _ _ _ (omega arith)
+returns-3 : tie.Need-returns-3
+returns-3 c = put-two _ _ _ _ _ _ _ _ _ _ (rw div-add-mod' at (c .before .before .put-in2 .ensures)) (c .put-octets .ensures) refl (omega arith) (omega arith)
 
 pub put-bits-spec : {M : Type 1} → statement M
 put-bits-spec =
     tie.close
     (tie.spec
-    Inv-loop
-    μ-loop
     returns
-    loop-holds
-    sub-k
-    sub-k-2
-    add-set-bit
-    shr-set-bit
-    set-bit-requires
-    add-i
-    loop-less
-    loop-again
-    returns-2)
+    add-t
+    put-in-requires
+    returns-2
+    sub-r
+    shr-high
+    sub-put-in
+    put-in-requires-2
+    add-put-octets
+    put-octets-requires
+    returns-3)
