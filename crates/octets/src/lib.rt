@@ -1,7 +1,7 @@
 // Numbers of four octets, the most significant octet first. What is not there reads as 0, and what has no room is dropped.
 ghost use mathlib.Core.Path.{_≡_};
-ghost use Prim.Native.Nat.{_≤_};
-ghost use lib.ListN.{getD, set};
+ghost use Prim.Native.Nat.{_+_, _*_, _≤_};
+ghost use lib.ListN.{length, getD, set};
 ghost use lib.Seq.{sets};
 ghost use Rattle.octets.specs.Octets.{quad, wordAt};
 
@@ -11,24 +11,51 @@ pub fn octet(s: &[u8], i: usize) -> u8
     if i < s.len() { s[i] } else { 0 }
 }
 
-fn wide(s: &[u8], i: usize) -> u32
-    ensures { λ r. ⌜ (r ≡ getD (now (s .entry)) i 0) × (r ≤ 255) ⌝ }
+fn wide(o: u8) -> u32
+    ensures { λ r. ⌜ (r ≡ o) × (r ≤ 255) ⌝ }
 {
-    let o = octet(s, i);
     o as u32
 }
 
-pub fn read_word(s: &[u8], at: usize) -> u32
+fn word_of(a: u8, b: u8, c: u8, d: u8) -> u32
+    ensures { λ r. ⌜ r ≡ ((a * 256 + b) * 256 + c) * 256 + d ⌝ }
+{
+    ((wide(a) * 256 + wide(b)) * 256 + wide(c)) * 256 + wide(d)
+}
+
+// Where all four octets are there.
+fn read_whole(s: &[u8], at: usize) -> u32
+    requires { ⌜ at + 4 ≤ length (now s) ⌝ }
+    ensures { λ r. ⌜ r ≡ wordAt (now (s .entry)) at ⌝ }
+{
+    word_of(s[at], s[at + 1], s[at + 2], s[at + 3])
+}
+
+// Where the octets may end before it does.
+fn read_cut(s: &[u8], at: usize) -> u32
     ensures { λ r. ⌜ r ≡ wordAt (now (s .entry)) at ⌝ }
 {
     if s.len() <= at {
         return 0;
     }
-    let a = wide(s, at);
-    let b = wide(s, at + 1);
-    let c = wide(s, at + 2);
-    let d = wide(s, at + 3);
-    ((a * 256 + b) * 256 + c) * 256 + d
+    let a = octet(s, at);
+    let b = octet(s, at + 1);
+    let c = octet(s, at + 2);
+    let d = octet(s, at + 3);
+    word_of(a, b, c, d)
+}
+
+pub fn read_word(s: &[u8], at: usize) -> u32
+    ensures { λ r. ⌜ r ≡ wordAt (now (s .entry)) at ⌝ }
+{
+    let n = s.len();
+    if n < 4 {
+        return read_cut(s, at);
+    }
+    if n - 4 < at {
+        return read_cut(s, at);
+    }
+    read_whole(s, at)
 }
 
 pub fn octets_of(w: u32) -> [u8; 4]
@@ -50,7 +77,20 @@ fn put_octet(out: &mut [u8], i: usize, o: u8)
     }
 }
 
-pub fn put_word(out: &mut [u8], at: usize, w: u32)
+// Where all four octets have room.
+fn put_whole(out: &mut [u8], at: usize, w: u32)
+    requires { ⌜ at + 4 ≤ length (now out) ⌝ }
+    ensures { λ _. ⌜ now (out .exit) ≡ sets (now (out .entry)) at (quad w) ⌝ }
+{
+    let q = octets_of(w);
+    out[at] = q[0];
+    out[at + 1] = q[1];
+    out[at + 2] = q[2];
+    out[at + 3] = q[3];
+}
+
+// Where the output may end before it does.
+fn put_cut(out: &mut [u8], at: usize, w: u32)
     ensures { λ _. ⌜ now (out .exit) ≡ sets (now (out .entry)) at (quad w) ⌝ }
 {
     if out.len() <= at {
@@ -61,4 +101,19 @@ pub fn put_word(out: &mut [u8], at: usize, w: u32)
     put_octet(out, at + 1, q[1]);
     put_octet(out, at + 2, q[2]);
     put_octet(out, at + 3, q[3]);
+}
+
+pub fn put_word(out: &mut [u8], at: usize, w: u32)
+    ensures { λ _. ⌜ now (out .exit) ≡ sets (now (out .entry)) at (quad w) ⌝ }
+{
+    let n = out.len();
+    if n < 4 {
+        put_cut(out, at, w);
+        return;
+    }
+    if n - 4 < at {
+        put_cut(out, at, w);
+        return;
+    }
+    put_whole(out, at, w);
 }

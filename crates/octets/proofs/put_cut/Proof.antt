@@ -1,8 +1,8 @@
 use native.Mathlib.Omega.{arith}
 use Rattle.octets.proofs.Words.{quad-out, quad-is}
 use borrow.Author.Needs.{needs}
-use Rattle.octets.proofs.put_word.Statement.{statement}
-use Rattle.octets.proofs.put_word.Tie as tie
+use Rattle.octets.proofs.put_cut.Statement.{statement}
+use Rattle.octets.proofs.put_cut.Tie as tie
 
 returns : tie.Need-returns
 returns c =
@@ -58,8 +58,8 @@ returns-2 c =
     let s = c .before .before .before .before .before .before .before .before .before .before .before .before .before .before .before .before .before .before .before .args in
     rw (p4 .put-octet4 .ensures, p3 .put-octet3 .ensures, p2 .put-octet2 .ensures, p1 .put-octet .ensures, q .octets-of .ensures) (quad-is (s .out .now) (s .at) _ _ _ _)
 
-pub put-word-spec : {M : Type 1} → statement M
-put-word-spec =
+pub put-cut-spec : {M : Type 1} → statement M
+put-cut-spec =
     tie.close
     (tie.spec
     returns
