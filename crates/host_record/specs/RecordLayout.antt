@@ -1,4 +1,5 @@
 -- The link record as octets. Numbers of more than one octet have the most significant octet first.
+use mathlib.Core.Path.{_≡_}
 use mathlib.Core.List.{List, [], _∷_, _++_}
 use Prim.Native.Nat.{ℕ}
 use lib.Dec.{eqb}
@@ -24,6 +25,11 @@ RECORD-OCTETS = 85
 -- 0 to 35 the nine settings in watch order; 36 to 71 the seconds left; 72 to 76 the states of DC, EC, PC, EM and LI; 77 to 84 the intervals
 unfoldable pub recordOctets : Link → List ℕ
 recordOctets l = quads (l .setting) ++ (quads (l .left) ++ (five (l .at) ++ intervalOctets (l .interval)))
+
+-- the settings and the seconds left that octets spell
+pub record Spelled (s setting left : List ℕ) : Type 0 where
+  pub settings : setting ≡ words s 0 timers
+  pub lefts : left ≡ words s 36 timers
 
 -- and back; octets that are not there are 0
 unfoldable pub linkOf : List ℕ → Link

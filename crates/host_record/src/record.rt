@@ -8,34 +8,40 @@ use octets::octet;
 use octets::put_word;
 use octets::read_word;
 ghost use mathlib.Core.Path.{_≡_};
-ghost use Prim.Native.Nat.{_≤_};
 ghost use lib.ListN.{length};
 ghost use lib.Seq.{sets};
-ghost use Rattle.link.specs.Names.{timers};
-ghost use Rattle.octets.specs.Octets.{words};
-ghost use Rattle.host_record.specs.RecordLayout.{five, intervalOctets, RECORD-OCTETS, linkOf, recordOctets, saved};
+ghost use Rattle.host_record.specs.RecordLayout.{five, intervalOctets, Spelled, RECORD-OCTETS, linkOf, recordOctets, saved};
 
 pub const RECORD: usize = 85;
 
-fn words_at(s: &[u8], at: usize) -> [u32; TIMERS]
-    requires { ⌜ at ≤ 36 ⌝ }
-    ensures { λ r. ⌜ r ≡ words (now (s .entry)) at timers ⌝ }
+// Settings and seconds left.
+struct Numbers {
+    setting: [u32; TIMERS],
+    left: [u32; TIMERS],
+}
+
+// Both in one loop: a function that is called once is compiled into its caller, which knows how many octets there are.
+fn numbers_in(s: &[u8]) -> Numbers
+    ensures { λ r. ⌜ Spelled (now (s .entry)) (r .setting) (r .left) ⌝ }
 {
-    let mut ws = [0u32; TIMERS];
+    let mut setting = [0u32; TIMERS];
+    let mut left = [0u32; TIMERS];
     let mut i: usize = 0;
     while i < TIMERS {
-        ws[i] = read_word(s, at + i * 4);
+        setting[i] = read_word(s, i * 4);
+        left[i] = read_word(s, 36 + i * 4);
         i += 1;
     }
-    ws
+    Numbers { setting, left }
 }
 
 // The record that the octets spell, good or not.
 pub fn load(s: &[u8]) -> Link
     ensures { λ r. ⌜ r ≡ linkOf (now (s .entry)) ⌝ }
 {
-    let setting = words_at(s, 0);
-    let left = words_at(s, 36);
+    let n = numbers_in(s);
+    let setting = n.setting;
+    let left = n.left;
     let at = [
         octet(s, 72),
         octet(s, 73),

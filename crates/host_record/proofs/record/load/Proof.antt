@@ -3,11 +3,8 @@ use borrow.Author.Needs.{needs}
 use Rattle.host_record.proofs.record.load.Statement.{statement}
 use Rattle.host_record.proofs.record.load.Tie as tie
 
-words-at-requires : tie.Need-words-at-requires
-words-at-requires c κs = search needs
-
-words-at-requires-2 : tie.Need-words-at-requires-2
-words-at-requires-2 c κs = search needs
+numbers-in-requires : tie.Need-numbers-in-requires
+numbers-in-requires c κs = search needs
 
 octet-requires : tie.Need-octet-requires
 octet-requires c κs = search needs
@@ -35,14 +32,13 @@ make-requires c κs = search needs
 
 returns : tie.Need-returns
 unfolding linkOf
-returns c = rw (c .make .ensures, c .before .before .before .before .before .before .before .before .before .words-at .ensures, c .before .before .before .before .before .before .before .before .words-at2 .ensures, c .before .before .before .before .before .before .before .octet .ensures, c .before .before .before .before .before .before .octet2 .ensures) (rw (c .before .before .before .before .before .octet3 .ensures, c .before .before .before .before .octet4 .ensures, c .before .before .before .octet5 .ensures, c .before .before .read-word .ensures, c .before .read-word2 .ensures))
+returns c = rw (c .make .ensures, c .before .before .before .before .before .before .before .before .before .before .numbers-in .ensures .settings, c .before .before .before .before .before .before .before .before .before .before .numbers-in .ensures .lefts, c .before .before .before .before .before .before .before .octet .ensures, c .before .before .before .before .before .before .octet2 .ensures) (rw (c .before .before .before .before .before .octet3 .ensures, c .before .before .before .before .octet4 .ensures, c .before .before .before .octet5 .ensures, c .before .before .read-word .ensures, c .before .read-word2 .ensures))
 
 pub load-spec : {M : Type 1} → statement M
 load-spec =
     tie.close
     (tie.spec
-    words-at-requires
-    words-at-requires-2
+    numbers-in-requires
     octet-requires
     octet-requires-2
     octet-requires-3
