@@ -1,7 +1,7 @@
 -- The message table of 01, the parts of reports: 01's line stands above each definition.
 use Prim.Native.Nat.{ℕ}
 use mathlib.Core.Path.{refl}
-use mathlib.Core.Bool.{false}
+use mathlib.Core.Bool.{Bool, true, false}
 use Rattle.per.specs.Codec.{Codec}
 use Rattle.per.specs.Formats.{dep, pair, iso, when, num, flag, ext, signed, mask, has}
 use Rattle.pdu_parts.specs.declared.position.Angle.{Angle}
@@ -13,6 +13,11 @@ use Rattle.pdu_parts.specs.declared.report.Report.{Report}
 use Rattle.pdu_parts.specs.declared.report.EmergencyReport.{EmergencyReport}
 use Rattle.pdu_parts.specs.Elements.{ADDRESS, GROUND-VECTOR, AIR-VECTOR, WEATHER, REPORT-BITS, REPORT-CARRIED, EMERGENCY-ADDRESS, EMERGENCY-GROUND-VECTOR, EMERGENCY-BITS, EMERGENCY-CARRIED}
 use Rattle.pdu_parts.specs.Vectors.{groundVectorC, noGroundVector, airVectorC, noAirVector, weatherC, noWeather}
+
+-- the most degrees of a longitude, or of a latitude
+abbrev pub degreesTop : Bool → ℕ
+degreesTop true = 180
+degreesTop false = 90
 
 -- "latitude (sign 1 bit, degrees 0..90, minutes 0..59, tenth-seconds 0..599), longitude (degrees 0..180, rest alike)"
 unfoldable pub angleC : ℕ → Codec Angle

@@ -1,10 +1,12 @@
 // Latitude, longitude and level.
 use per::cursor::Cursor;
+use per::cursor::Num;
 use per::cursor::Signed;
 use per::pen::Pen;
 ghost use Rattle.per.specs.Reading.{Reads};
 ghost use Rattle.per.specs.Writing.{Writes};
-ghost use Rattle.pdu_parts.specs.Reports.{angleC, positionC};
+ghost use Rattle.pdu_parts.specs.Reports.{degreesTop, angleC, positionC};
+ghost use Rattle.per.specs.Formats.{num};
 
 // Degrees, minutes and tenth-seconds. Minus zero and plus zero stay different.
 pub struct Angle {
@@ -30,11 +32,30 @@ pub struct PositionRead {
     pub next: Cursor,
 }
 
-fn read_angle(c: Cursor, s: &[u8], top: u32) -> AngleRead
-    ensures { λ r. ⌜ Reads (angleC top) (now (s .entry)) c (r .value) (r .next) ⌝ }
+// Two constant ranges: for one that is handed in the width would be worked out at every call.
+fn read_degrees(c: Cursor, s: &[u8], long: bool) -> Num
+    ensures { λ r. ⌜ Reads (num 0 (degreesTop long)) (now (s .entry)) c (r .value) (r .next) ⌝ }
+{
+    if long {
+        return c.num(s, 0, 180);
+    }
+    c.num(s, 0, 90)
+}
+
+fn write_degrees(p: Pen, out: &mut [u8; 128], v: u32, long: bool) -> Pen
+    ensures { λ r. ⌜ Writes (num 0 (degreesTop long)) (now (out .entry)) p v r (now (out .exit)) ⌝ }
+{
+    if long {
+        return p.num(out, v, 0, 180);
+    }
+    p.num(out, v, 0, 90)
+}
+
+fn read_angle(c: Cursor, s: &[u8], long: bool) -> AngleRead
+    ensures { λ r. ⌜ Reads (angleC (degreesTop long)) (now (s .entry)) c (r .value) (r .next) ⌝ }
 {
     let minus = c.flag(s);
-    let degrees = minus.next.num(s, 0, top);
+    let degrees = read_degrees(minus.next, s, long);
     let minutes = degrees.next.num(s, 0, 59);
     let tenths = minutes.next.num(s, 0, 599);
     let value = Angle {
@@ -47,11 +68,11 @@ fn read_angle(c: Cursor, s: &[u8], top: u32) -> AngleRead
     AngleRead { value, next }
 }
 
-fn write_angle(p: Pen, out: &mut [u8; 128], a: Angle, top: u32) -> Pen
-    ensures { λ r. ⌜ Writes (angleC top) (now (out .entry)) p a r (now (out .exit)) ⌝ }
+fn write_angle(p: Pen, out: &mut [u8; 128], a: Angle, long: bool) -> Pen
+    ensures { λ r. ⌜ Writes (angleC (degreesTop long)) (now (out .entry)) p a r (now (out .exit)) ⌝ }
 {
     let p = p.flag(out, a.minus);
-    let p = p.num(out, a.degrees, 0, top);
+    let p = write_degrees(p, out, a.degrees, long);
     let p = p.num(out, a.minutes, 0, 59);
     p.num(out, a.tenths, 0, 599)
 }
@@ -59,8 +80,8 @@ fn write_angle(p: Pen, out: &mut [u8; 128], a: Angle, top: u32) -> Pen
 pub fn read_position(c: Cursor, s: &[u8]) -> PositionRead
     ensures { λ r. ⌜ Reads positionC (now (s .entry)) c (r .value) (r .next) ⌝ }
 {
-    let lat = read_angle(c, s, 90);
-    let lon = read_angle(lat.next, s, 180);
+    let lat = read_angle(c, s, false);
+    let lon = read_angle(lat.next, s, true);
     let lev = lon.next.signed(s, 75, 10000);
     let latitude = lat.value;
     let longitude = lon.value;
@@ -80,7 +101,7 @@ pub fn write_position(p: Pen, out: &mut [u8; 128], a: Position) -> Pen
     let latitude = a.latitude;
     let longitude = a.longitude;
     let level = a.level;
-    let p = write_angle(p, out, latitude, 90);
-    let p = write_angle(p, out, longitude, 180);
+    let p = write_angle(p, out, latitude, false);
+    let p = write_angle(p, out, longitude, true);
     p.signed(out, level, 75, 10000)
 }
