@@ -1,11 +1,13 @@
-/* drive MODE MIX [WORD]: asn1c's unaligned PER code and the archive in one process, on the same PDUs.
- * First both read and write every PDU, and what they give is compared. Then, by MODE:
+/* drive MODE MIX [WORD]: asn1c's unaligned PER code, the archive and the codec by hand in one process, on the same PDUs.
+ * First all read and write every PDU, and what they give is compared. Then, by MODE:
  *   check   nothing more
+ *   hand    the archive and the codec by hand on inputs that are refused too
  *   count   each operation once over each group, between magic system calls that cut.c sees
  *   time    the same many times in turn: the median, in nanoseconds a call
  *   stack   the octets of stack that its deepest call takes
  * Answers are lines `group|operation|calls|value`; the value of a count is the tag of its cut.
- * WORD: spoil-number, spoil-entry, spoil-octet: alters one thing that the archive gave, which has to stop the driver. */
+ * WORD: alters one thing, which has to stop the driver: spoil-number, spoil-entry and spoil-octet what the archive gave, spoil-hand a number that was read
+ * by hand, spoil-refusal a refusal in mode hand. */
 #include <stdio.h>
 #include <stdlib.h>
 #include <string.h>
@@ -17,7 +19,7 @@
 enum { PDUS = 4000, GROUPS = 20, WORKS = 200, REPEATS = 101, FILL = 0xa5, MAGIC = 0x5eed };
 
 static struct pdu pdus[PDUS];
-static struct group { char name[64]; int first, count; } groups[GROUPS];
+static struct group { char name[64]; int first, count, by_hand; } groups[GROUPS];
 static int pdu_count, group_count;
 static const char *spoil = "";
 
@@ -42,6 +44,14 @@ static asn_TYPE_descriptor_t *type(const struct pdu *p)
 static void nothing(struct pdu *p)
 {
     (void)p;
+}
+
+/* Fetches the PDU, so that what comes next finds it as near as what follows. */
+static void touch(struct pdu *p)
+{
+    volatile uint8_t *octets = (uint8_t *)p;
+    for (size_t i = 0; i < sizeof *p; i += 32)
+        octets[i] = octets[i];
 }
 
 static void their_read(struct pdu *p)
@@ -83,11 +93,27 @@ static void our_write(struct pdu *p)
         stop("the archive does not write", p);
 }
 
+static void hand_read(struct pdu *p)
+{
+    uint8_t refusal = p->air ? hand_read_air(p->octets, p->length, p->numbers, AIR, p->list, LIST)
+                             : hand_read_ground(p->octets, p->length, p->numbers, GROUND);
+    if (refusal)
+        stop("the codec by hand does not read", p);
+}
+
+static void hand_write(struct pdu *p)
+{
+    uint8_t refusal = p->air ? hand_write_air(p->numbers, AIR, p->list, LIST, p->out, OCTETS, &p->written)
+                             : hand_write_ground(p->numbers, GROUND, p->out, OCTETS, &p->written);
+    if (refusal)
+        stop("the codec by hand does not write", p);
+}
+
 static const struct op ops[] = {
     {"nothing", nothing}, {"their read", their_read}, {"their check", their_check}, {"their write", their_write},
-    {"their free", their_free}, {"our read", our_read}, {"our write", our_write},
+    {"their free", their_free}, {"touch", touch}, {"our read", our_read}, {"our write", our_write}, {"hand read", hand_read}, {"hand write", hand_write},
 };
-enum { OPS = sizeof ops / sizeof *ops };
+enum { OPS = sizeof ops / sizeof *ops, HAND_OPS = 2 };      /* those by hand stand last: some groups have none */
 
 /* The mix. */
 
@@ -152,7 +178,28 @@ static void same_numbers(struct pdu *p)
         stop("the list differs", p);
 }
 
-static void check(struct pdu *p)
+/* The codec by hand against the archive, which has read and written this PDU. Whether it has one of this kind. */
+static int check_hand(const struct pdu *p)
+{
+    struct pdu q = *p;
+    memset(q.numbers, FILL, sizeof q.numbers);
+    memset(q.list, FILL, LIST);
+    memset(q.out, FILL, OCTETS);
+    if (!by_hand(p->air, p->octets))
+        return 0;
+    hand_read(&q);
+    if (spoils("spoil-hand", p))
+        q.numbers[AIR - 1] ^= 1;
+    if (memcmp(q.numbers, p->numbers, sizeof q.numbers) || memcmp(q.list, p->list, LIST))
+        stop("what is read by hand differs", p);
+    hand_write(&q);
+    if (q.written != p->written || memcmp(q.out, p->out, OCTETS))
+        stop("other octets are written by hand", p);
+    return 1;
+}
+
+/* Reads and writes a PDU by all three; whether by hand too. */
+static int check(struct pdu *p)
 {
     their_read(p);
     their_check(p);
@@ -172,6 +219,7 @@ static void check(struct pdu *p)
         if (p->out[i] != FILL)
             stop("the archive writes past the end", p);
     their_free(p);
+    return check_hand(p);
 }
 
 /* What is measured: each operation over each group. */
@@ -247,22 +295,31 @@ static void stacks(void)
 
 int main(int argc, char **argv)
 {
+    int by_hand = 0;
     if (argc < 3)
-        stop("usage: drive check|count|time|stack MIX [WORD]", NULL);
+        stop("usage: drive check|hand|count|time|stack MIX [WORD]", NULL);
     if (argc > 3)
         spoil = argv[3];
     load(argv[2]);
-    for (int i = 0; i < pdu_count; i++)
-        check(&pdus[i]);
-    for (struct group *g = groups; g < groups + group_count; g++)
-        add(g->name, ops, OPS, pdus + g->first, g->count);
+    for (struct group *g = groups; g < groups + group_count; g++) {
+        for (int i = 0; i < g->count; i++)
+            g->by_hand += check(&pdus[g->first + i]);
+        by_hand += g->by_hand;
+        add(g->name, ops, g->by_hand == g->count ? OPS : OPS - HAND_OPS, pdus + g->first, g->count);
+    }
     link_ready();
     add("link", link_ops, LINK_OPS, pdus, 100);
     switch (argv[1][1]) {
+    case 'a':
+        for (struct group *g = groups; g < groups + group_count; g++)
+            if (g->by_hand == g->count)
+                alike(pdus + g->first, g->count, !strcmp(spoil, "spoil-refusal"));
+        alike_tell();
+        break;
     case 'o': count(); break;
     case 'i': times(); break;
     case 't': stacks(); break;
-    default: printf("%d PDUs read and written alike by both\n", pdu_count);
+    default: printf("%d PDUs read and written alike by both, %d of them by hand too\n", pdu_count, by_hand);
     }
     return 0;
 }

@@ -3,7 +3,7 @@
 #include <stdint.h>
 #include "Aircraft.h"
 #include "Ground.h"
-#include "../include/adsc.h"
+#include "hand.h"
 
 enum { AIR = ADSC_AIR_NUMBERS, GROUND = ADSC_GROUND_NUMBERS, LIST = ADSC_LIST_OCTETS, OCTETS = 128 };
 
@@ -25,6 +25,13 @@ struct op { const char *name; job *run; };
 /* What the archive has to read where asn1c read this; all numbers and entries are 0 before. */
 void flat_air(const Aircraft_t *a, uint32_t *numbers, uint8_t *list);
 void flat_ground(const Ground_t *g, uint32_t *numbers);
+
+/* Whether the kind of PDU that these octets begin is read by hand. */
+int by_hand(int air, const uint8_t *octets);
+
+/* The archive and the codec by hand on inputs made of these PDUs, which were read; then what they answered. With `spoils` one answer is altered. */
+void alike(const struct pdu *first, int count, int spoils);
+void alike_tell(void);
 
 /* Octets of stack that a call reaches down. */
 size_t stack_of(job *run, struct pdu *p);
