@@ -81,7 +81,7 @@ ARRAYS = [
 # Numbers that stand in the text of a function or a type.
 TEXTS = {
     "host_record/src/record.rt": {
-        "ADSC_LINK_SETTINGS": r"let setting = words_at\(s, (\d+)\)", "ADSC_LINK_LEFT": r"let left = words_at\(s, (\d+)\)",
+        "ADSC_LINK_SETTINGS": r"put_words\(out, (\d+), setting\)", "ADSC_LINK_LEFT": r"put_words\(out, (\d+), left\)",
         "ADSC_LINK_DC": r"out\[(\d+)\] = at\[0\]", "ADSC_LINK_EC": r"out\[(\d+)\] = at\[1\]", "ADSC_LINK_PC": r"out\[(\d+)\] = at\[2\]",
         "ADSC_LINK_EM": r"out\[(\d+)\] = at\[3\]", "ADSC_LINK_LI": r"out\[(\d+)\] = at\[4\]",
         "ADSC_LINK_ASKED": r"\basked(?: =|:) read_word\(s, (\d+)\)", "ADSC_LINK_FORCE": r"\bforce(?: =|:) read_word\(s, (\d+)\)"},
