@@ -2,10 +2,9 @@
 use mathlib.Core.Path.{_≡_}
 use mathlib.Core.Bool.{Bool, true, false}
 use Prim.Native.Nat.{ℕ}
-use lib.Dec.{T, eqb, leb}
+use lib.Dec.{T, eqb}
 use borrow.Author.Tests.{eqb-true, le-leb}
-use Rattle.link.specs.Tests.{both, pick}
-use Rattle.link.proofs.Laws.{eq-T}
+use Rattle.link.specs.Tests.{pick}
 use Rattle.pdu.specs.declared.uplink.Ground.{Ground}
 use Rattle.pdu.specs.declared.uplink.Ground.the-variants.{CancelAll, CancelContract, CancelEmergencyAck, DemandContract, EventContract, ModifyEmergency, PeriodicContract}
 use Rattle.pdu.specs.declared.uplink.Ground as ground

@@ -4,11 +4,10 @@ use mathlib.Core.Bool.{Bool, true, false}
 use mathlib.Core.List.{[], _∷_}
 use types.Run.{OneOf, miss}
 use denote.Enum.Declared.{tagOf}
-use Prim.Native.Nat.{ℕ, zero, suc, _*_, _≤_}
+use Prim.Native.Nat.{ℕ, zero, suc, _≤_}
 use native.Mathlib.Omega.{arith}
-use lib.Dec.{T, eqb, leb, lit≤}
+use lib.Dec.{leb, lit≤}
 use borrow.Author.Tests.{leb-true}
-use Rattle.link.proofs.Laws.{no-true}
 use Rattle.per.specs.Codec.{first, unless}
 use Rattle.per.specs.laws.Codec.{first-0, first-1, unless-true}
 use Rattle.per.specs.Formats.{field, dep, via, only, absent, when, num, has, altCodec, choice}
@@ -16,7 +15,7 @@ use Rattle.per.specs.Pdu.{encode}
 use Rattle.pdu_parts.specs.declared.interval.Interval.{Interval}
 use Rattle.pdu_parts.specs.declared.interval.Interval.the-variants.{Seconds, Minutes}
 use Rattle.pdu_parts.specs.declared.periodic.Periodic.{Periodic}
-use Rattle.pdu_parts.specs.Interval.{intervalC, fiveMinutes, isFive, sentC, sentBits, Moduli, moduliC, periodicBits, periodicRest}
+use Rattle.pdu_parts.specs.Interval.{intervalC, fiveMinutes, isFive, sentC, sentBits, Moduli, moduliC, periodicBits}
 use Rattle.pdu_parts.specs.Periodic.{periodicC}
 use Rattle.pdu.proofs.uplink.Ground.{the-type}
 use Rattle.pdu.specs.declared.uplink.Ground.{Ground}

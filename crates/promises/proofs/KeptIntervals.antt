@@ -2,18 +2,15 @@
 use mathlib.Core.Path.{_≡_, refl, sym, ap, subst, _∙_}
 use mathlib.Core.Bool.{Bool, true, false}
 use mathlib.Core.List.{List}
-use Prim.Native.Nat.{ℕ, zero, suc, _≤_}
+use Prim.Native.Nat.{ℕ, _≤_}
 use native.Mathlib.Omega.{arith}
 use lib.Dec.{T, eqb, leb, leb→le, eqb→eq}
 use lib.ListN.{getD, set}
 use lib.Seq.{getD-set-other}
 use borrow.Author.Tests.{eq-eqb, eqb-true, eqb-false}
-use Rattle.per.specs.Pdu.{readPdu, got}
 use Rattle.pdu_parts.specs.declared.periodic.Periodic.{Periodic}
-use Rattle.pdu.specs.declared.uplink.Ground.{Ground}
 use Rattle.pdu.specs.declared.uplink.Ground.the-variants.{PeriodicContract}
 use Rattle.pdu.specs.declared.downlink.AirPdu.{AirPdu}
-use Rattle.pdu.specs.DownlinkTable.{airC}
 use Rattle.link.specs.Tests.{both, either, pick, below}
 use Rattle.link.specs.Names.{timers, PC, LI}
 use Rattle.link.specs.Watch.{settingOk}
@@ -23,7 +20,7 @@ use Rattle.sides.specs.Tables.{moveOf}
 use Rattle.link.specs.Moves.{to, stop, send, start, unlisted}
 use Rattle.ground_tables.specs.Names.{START-PENDING, PENDING, PC1, LI-IDLE, LI-START, LI-ACTIVE}
 use Rattle.ground_tables.specs.Moves.{contractRows, groundRows, pc2Quiet}
-use Rattle.ground_tables.specs.Intervals.{noIntervals, askedAt, forceAt, holds, intervalOk, intervalsOk, agrees, answers, agreed}
+use Rattle.ground_tables.specs.Intervals.{noIntervals, askedAt, holds, intervalOk, intervalsOk, agrees, answers, agreed}
 use Rattle.ground_tables.specs.declared.intervals.Intervals.{Intervals}
 use Rattle.ground_tables.specs.Tables.{idle, liIs, groundTables}
 use Rattle.ground_answer.specs.Record.{good, followed, moveAt, agreedAt, went}

@@ -13,7 +13,6 @@ use Rattle.link.proofs.Laws.{both-T, below-all, eq-T}
 use Rattle.ground_tables.specs.Names.{ACTIVE, EC1, EC2}
 use Rattle.ground_tables.specs.Watch.{groundWatch}
 use Rattle.ground_tables.specs.Tables.{groundTables}
-use Rattle.ground_answer.specs.Record.{loads}
 use Rattle.ground.specs.Runs.{Made}
 use Rattle.ground.proofs.Promises.{loads-most, intervals-held}
 use Rattle.ground.proofs.Demand3.{demand3-first, demand3-second, event-contract-no-clock}

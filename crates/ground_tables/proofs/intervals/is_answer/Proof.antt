@@ -1,4 +1,3 @@
-use borrow.Author.Tests.{eq-eqb, ne-eqb}
 use Rattle.ground_tables.specs.Intervals.{answers}
 use borrow.Author.Needs.{needs}
 use Rattle.ground_tables.proofs.intervals.is_answer.Statement.{statement}
