@@ -10,6 +10,7 @@ use Rattle.pdu.specs.declared.uplink.Ground.the-variants.{CancelAll, CancelCont
 use Rattle.pdu.specs.declared.uplink.Ground as ground
 use Rattle.pdu.specs.declared.downlink.Air.{Air}
 use Rattle.pdu.specs.declared.downlink.Air.the-variants.{CancelEmergency, Demand, Emergency, Event, Negative, Noncompliance, Periodic, Positive, Abort}
+use Rattle.ground_tables.specs.Intervals.{INTERVAL-MOST}
 use Rattle.ground_tables.proofs.KeptIntervals.{asksWell}
 use Rattle.ground_answer.specs.Events.{requestEvent, cancelEvent, asksFor, airEvent, negativeEvent, positiveEvent, unmetEvent}
 use Rattle.ground_answer.specs.Sent.{outgoing}
@@ -30,7 +31,7 @@ asked-well (EventContract v) h = tt
 asked-well (ModifyEmergency i) h = tt
 asked-well (PeriodicContract a) h =
     let r = asks-within a (eqb-true _ 0 h) in
-    rw (le-leb 1 _ (r .0), le-leb _ 7200 (r .1)) tt
+    rw (le-leb 1 _ (r .0), le-leb _ INTERVAL-MOST (r .1)) tt
 asked-well (ground.the-variants.Abort n) h = tt
 
 pub data-well : (a : Air) → T (asksWell (airEvent a) 0)

@@ -22,12 +22,13 @@ use Rattle.pdu.specs.declared.uplink.Ground.{Ground}
 use Rattle.pdu.specs.declared.uplink.Ground.the-variants.{CancelAll, CancelContract, CancelEmergencyAck, DemandContract, EventContract, ModifyEmergency, PeriodicContract, Abort}
 use Rattle.pdu.specs.UplinkTable.{groundAlt, groundC}
 use Rattle.pdu.proofs.UplinkNorms.{periodic-norm}
+use Rattle.ground_tables.specs.Intervals.{INTERVAL-MOST}
 use Rattle.ground_answer.specs.Events.{secondsOf, asksFor}
 use Rattle.ground_answer.specs.Sent.{letterOf, outgoing}
 
 -- 1 second to two hours
 abbrev Within : ℕ → Type 0
-Within n = (1 ≤ n) × (n ≤ 7200)
+Within n = (1 ≤ n) × (n ≤ INTERVAL-MOST)
 
 in-range : (lo hi n : ℕ) → num lo hi .chk n ≡ 0 → (lo ≤ n) × (n ≤ hi)
 unfolding field
