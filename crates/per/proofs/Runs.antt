@@ -8,6 +8,7 @@ use native.Mathlib.Omega.{arith}
 use lib.Pow.{pow-pos, high, low}
 use Rattle.per.specs.Bits.{numAt}
 use Rattle.per.specs.laws.Bits.{numAt-lt}
+use Rattle.per.specs.Pdu.{fill}
 
 -- a run of two parts
 pub num-add : (bs : List Bool) (at a b : ℕ) → numAt bs at (a + b) ≡ numAt bs at a * 2 ^ b + numAt bs (at + a) b
@@ -26,6 +27,19 @@ num-window bs at w n h =
     let f : numAt bs b n ≡ numAt bs b (k + w) * 2 ^ r + numAt bs (b + (k + w)) r = ap (numAt bs b) e ∙ num-add bs b (k + w) r in
     let g : b + k ≡ at = omega arith in
     rw (f, high (numAt bs b (k + w)) r (numAt-lt bs (b + (k + w)) r), num-add bs b k w, g, low (numAt bs b k) w (numAt-lt bs at w))
+
+-- what follows a place in its octet
+pub num-rest : (bs : List Bool) (at x m : ℕ) → (at % 8 ≡ 0 → ⊥) → x ≡ numAt bs (at / 8 * 8) 8 → m ≡ 2 ^ (8 - at % 8) → x % m ≡ numAt bs at (fill at)
+num-rest bs at x m h p q =
+    let b = at / 8 * 8 in
+    let k = at % 8 in
+    let w = 8 - k in
+    let e : 8 ≡ k + w = omega arith in
+    let g : b + k ≡ at = omega arith in
+    let r : w ≡ (8 - at % 8) % 8 = omega arith in
+    let f : numAt bs b 8 ≡ numAt bs b k * 2 ^ w + numAt bs at w =
+    ap (numAt bs b) e ∙ num-add bs b k w ∙ ap (λ (n : ℕ). numAt bs b k * 2 ^ w + numAt bs n w) g in
+    rw (p, q, f, low (numAt bs b k) w (numAt-lt bs at w)) (ap (numAt bs at) r)
 
 pub num-none : (bs : List Bool) (at w : ℕ) → w ≡ 0 → 0 ≡ numAt bs at w
 unfolding numAt

@@ -1,6 +1,7 @@
 // Reading: a cursor by value that keeps its first refusal. A read on a cursor that holds one gives the empty value and the same cursor.
 use crate::read_bits::bits_at;
 use crate::read_bits::left;
+use crate::read_bits::octet_rest;
 use crate::read_bits::room;
 use crate::read_bits::width_of;
 use refusals::*;
@@ -101,11 +102,10 @@ fn ending_bad(s: &[u8], at: usize) -> u8
     if end < at {
         return OCTETS_AFTER;
     }
-    let f = (8 - at % 8) % 8;
-    if bits_at(s, at, f) != 0 {
+    if octet_rest(s, at) != 0 {
         return FILLING;
     }
-    if at + f != end {
+    if at + (8 - at % 8) % 8 != end {
         return OCTETS_AFTER;
     }
     0
@@ -142,6 +142,17 @@ impl Cursor {
                 next: Cursor {
                     at,
                     refusal: CUT_SHORT,
+                },
+            };
+        }
+        // Called from one place alone, the leaf would be compiled into `take`, which then is too long to be compiled into its callers, where w is known.
+        if w <= 8 {
+            let v = bits_at(s, at, w);
+            return Num {
+                value: v as u32,
+                next: Cursor {
+                    at: at + w,
+                    refusal: 0,
                 },
             };
         }

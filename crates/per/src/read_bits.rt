@@ -3,7 +3,7 @@ ghost use mathlib.Core.Path.{_≡_};
 ghost use Prim.Native.Nat.{_+_, _-_, _*_, _^_, _≤_, _<_};
 ghost use lib.ListN.{length};
 ghost use Rattle.per.specs.Bits.{numAt, width};
-ghost use Rattle.per.specs.Pdu.{window};
+ghost use Rattle.per.specs.Pdu.{window, fill};
 
 fn wide(x: u8) -> u64
     ensures { λ r. ⌜ r ≡ x ⌝ }
@@ -110,4 +110,16 @@ pub(crate) fn bits_at(s: &[u8], at: usize, w: usize) -> u64
         return (quad(s, i) >> (32 - t)) % m;
     }
     (five(s, i) >> (40 - t)) % m
+}
+
+// What follows a place in its octet: the filling, where a PDU ends there.
+pub(crate) fn octet_rest(s: &[u8], at: usize) -> u64
+    requires { ⌜ at ≤ length (window (now s)) ⌝ }
+    ensures { λ r. ⌜ r ≡ numAt (window (now (s .entry))) at (fill at) ⌝ }
+{
+    let k = at % 8;
+    if k == 0 {
+        return 0;
+    }
+    octet(s, at / 8) % pow2(8 - k)
 }

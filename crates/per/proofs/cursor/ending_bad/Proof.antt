@@ -1,5 +1,5 @@
 use native.Mathlib.Omega.{arith}
-use Rattle.per.proofs.Octets.{window-length, window-most}
+use Rattle.per.proofs.Octets.{window-most}
 use Rattle.per.proofs.Ends.{ending-past, ending-13, ending-14, ending-0}
 use borrow.Author.Needs.{needs}
 use Rattle.per.proofs.cursor.ending_bad.Statement.{statement}
@@ -11,25 +11,25 @@ room-requires c κs = search needs
 returns : tie.Need-returns
 returns c = ending-past _ _ _ (c .before .room .ensures) (c .if1 .taken)
 
-sub-f : tie.Need-sub-f
-sub-f c = search needs
-
-bits-at-requires : tie.Need-bits-at-requires
-bits-at-requires c κs = omega (arith, window-length (c .before .before .before .args .s .now))
+octet-rest-requires : tie.Need-octet-rest-requires
+octet-rest-requires c κs = search needs
 
 returns-2 : tie.Need-returns-2
-returns-2 c = ending-13 _ _ _ (c .before .bits-at .ensures) (c .if2 .taken)
+returns-2 c = ending-13 _ _ _ (c .before .octet-rest .ensures) (c .if2 .taken)
+
+sub-if3 : tie.Need-sub-if3
+sub-if3 c = search needs
 
 add-if3 : tie.Need-add-if3
 add-if3 c = omega (arith, window-most (c .before .before .before .before .before .args .s .now))
 
 returns-3 : tie.Need-returns-3
-returns-3 c = ending-14 _ _ _ _ (c .before .before .bits-at .ensures) (c .before .if2 .left) (c .before .before .before .before .room .ensures) (c .if3 .taken)
+returns-3 c = ending-14 _ _ _ _ (c .before .before .octet-rest .ensures) (c .before .if2 .left) (c .before .before .before .before .room .ensures) (c .if3 .taken)
 
 returns-4 : tie.Need-returns-4
-returns-4 c = ending-0 _ _ _ _ (c .before .before .bits-at .ensures) (c .before .if2 .left) (c .before .before .before .before .room .ensures) (c .if3 .left)
+returns-4 c = ending-0 _ _ _ _ (c .before .before .octet-rest .ensures) (c .before .if2 .left) (c .before .before .before .before .room .ensures) (c .if3 .left)
 
 pub ending-bad-spec : {M : Type 1} → statement M
 ending-bad-spec =
     tie.close
-    (tie.spec room-requires returns sub-f bits-at-requires returns-2 add-if3 returns-3 returns-4)
+    (tie.spec room-requires returns octet-rest-requires returns-2 sub-if3 add-if3 returns-3 returns-4)
