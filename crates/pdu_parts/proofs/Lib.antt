@@ -2,6 +2,7 @@ pub mod ListLaws
 pub mod ListBounds
 pub mod ListNorms
 pub mod ReportBounds
+pub mod SpanLaws
 pub mod ReportNorms
 pub mod ReportSigns
 pub mod Counting

@@ -3,6 +3,7 @@ pub mod Lists
 pub mod ListsInner
 pub mod Vectors
 pub mod Reports
+pub mod Spans
 pub mod Interval
 pub mod Periodic
 pub mod Ones

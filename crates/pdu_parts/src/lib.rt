@@ -7,5 +7,6 @@ pub mod lists;
 pub mod periodic;
 pub mod position;
 pub mod report;
+mod spans;
 pub mod time;
 pub mod vectors;

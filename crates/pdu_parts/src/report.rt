@@ -3,6 +3,7 @@ use crate::elements::*;
 use crate::position::Position;
 use crate::position::read_position;
 use crate::position::write_position;
+use crate::spans::*;
 use crate::time::Merit;
 use crate::time::Time;
 use crate::time::read_merit;
@@ -56,7 +57,8 @@ pub struct EmergencyReportRead {
     pub next: Cursor,
 }
 
-fn read_fix(c: Cursor, s: &[u8]) -> FixRead
+// Field by field: the first refusal stands where it is met.
+fn read_fix_fields(c: Cursor, s: &[u8]) -> FixRead
     ensures { λ r. ⌜ Reads fixC (now (s .entry)) c (r .value) (r .next) ⌝ }
 {
     let pos = read_position(c, s);
@@ -71,6 +73,42 @@ fn read_fix(c: Cursor, s: &[u8]) -> FixRead
         merit,
     };
     let next = mer.next;
+    FixRead { value, next }
+}
+
+// Fields that stand side by side at once. Where one is refused, all are read again field by field.
+fn read_fix(c: Cursor, s: &[u8]) -> FixRead
+    ensures { λ r. ⌜ Reads fixC (now (s .entry)) c (r .value) (r .next) ⌝ }
+{
+    let lat = c.take(s, 24);
+    let lon = lat.next.take(s, 25);
+    let lev = lon.next.signed(s, 75, 10000);
+    let date = lev.next.take(s, 28);
+    let start = time_in(date.value);
+    let sec = date.next.num_if(s, start.has_seconds, 0, 59);
+    let mer = sec.next.take(s, 5);
+    let next = mer.next;
+    let latitude = angle_in(lat.value, 8388608);
+    let longitude = angle_in(lon.value, 16777216);
+    if next.refusal != 0 {
+        return read_fix_fields(c, s);
+    }
+    if !fix_fits(latitude, longitude, start) {
+        return read_fix_fields(c, s);
+    }
+    let level = lev.value;
+    let position = Position {
+        latitude,
+        longitude,
+        level,
+    };
+    let time = with_seconds(start, sec.value);
+    let merit = merit_in(mer.value);
+    let value = Fix {
+        position,
+        time,
+        merit,
+    };
     FixRead { value, next }
 }
 

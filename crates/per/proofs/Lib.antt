@@ -4,6 +4,7 @@ pub mod Leaf
 pub mod Ends
 pub mod SignedRead
 pub mod Compose
+pub mod Peels
 pub mod Within
 pub mod RoundTrip
 pub mod Longest
