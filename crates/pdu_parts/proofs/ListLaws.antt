@@ -1,9 +1,9 @@
 -- Lists in arrays, entry by entry. Assumes nothing.
-use Prim.Native.Nat.{ℕ, suc, _+_, _-_, _*_, _≤_, _<_}
+use Prim.Native.Nat.{ℕ, suc, _+_, _-_, _*_, _/_, _%_, _≤_, _<_}
 use mathlib.Core.Path.{_≡_, refl, sym, ap, subst, _∙_}
 use mathlib.Core.Bool.{Bool, true, false}
 use mathlib.Core.List.{List, [], _∷_, _++_, append-assoc}
-use native.Mathlib.Nat.{mul-le-mul-left}
+use native.Mathlib.Nat.{add-assoc, mul-le-mul-left}
 use native.Mathlib.Numerals.{add-one}
 use native.Mathlib.Omega.{arith}
 use lib.ListN.{length, getD, set, take, replicate}
@@ -12,10 +12,12 @@ use Rattle.per.specs.declared.cursor.Cursor.{Cursor}
 use Rattle.per.specs.declared.pen.Pen.{Pen}
 use Rattle.per.specs.Codec.{Codec}
 use Rattle.per.specs.laws.Codec.{unless-gt}
-use Rattle.per.specs.Formats.{field, via, absent, num, extension, count, vec, list16}
+use Rattle.per.specs.Bits.{width, widthIn}
+use Rattle.per.specs.Formats.{field, via, absent, run, num, extension, count, vec, list16}
 use Rattle.per.specs.Pdu.{window}
 use Rattle.per.specs.Reading.{Reads}
 use Rattle.per.proofs.Compose.{by, like, after-ext, one-more, vec-long, num-most}
+use Rattle.per.proofs.Peels.{peel, all-of}
 use Rattle.per.specs.Writing.{Writes}
 use Rattle.per.proofs.Inks.{inks-by, inks-first, inks-like, inks-ext, inks-more}
 use Rattle.pdu_parts.specs.Lists.{listed, listed-left, entryC}
@@ -62,6 +64,21 @@ filled-more c n {s} {j = j} {v = v} h f q =
       items-are = ap (λ (x : List ℕ). set x n v) (f .items-are) ∙ e ∙ ap (λ (x : List ℕ). x ++ replicate (128 - suc n) 0) (m .value-is);
       next-is = m .next-is;
     })
+
+-- half a name: four characters of one run
+pub filled-four : (n : ℕ) {s items : List ℕ} {j next k : Cursor} {v : ℕ} → n + 4 ≤ 128 → Filled (entryC false 127) n s j items next → Reads (run 28) s next v k → k .refusal ≡ 0
+    → Filled (entryC false 127) (n + 4) s j
+    (set (set (set (set items n (v / 2097152)) (n + 1) (v % 2097152 / 16384)) (n + 2) (v % 2097152 % 16384 / 128)) (n + 3) (v % 2097152 % 16384 % 128)) k
+unfolding width widthIn entryC
+filled-four n {s} {items} {j} h f u z =
+    let first = peel 7 21 (omega arith) u z in
+    let second = peel 7 14 (omega arith) (first .1) z in
+    let third = peel 7 7 (omega arith) (second .1) z in
+    let a = filled-more (num 0 127) n (omega arith) f (all-of 127 7 refl (omega arith) refl (first .0) refl) in
+    let b = filled-more (num 0 127) (n + 1) (omega arith) a (all-of 127 7 refl (omega arith) refl (second .0) refl) in
+    let c = filled-more (num 0 127) (n + 2) (omega arith) (rw (add-assoc n 1 1) at b) (all-of 127 7 refl (omega arith) refl (third .0) refl) in
+    let d = filled-more (num 0 127) (n + 3) (omega arith) (rw (add-assoc n 2 1) at c) (all-of 127 7 refl (omega arith) refl (third .1) z) in
+    rw (add-assoc n 3 1) at d
 
 pub listed-reads : (m : ℕ) (c : Codec ℕ) {s items : List ℕ} {j k next : Cursor} {n : ℕ} → Reads count s j n k → Filled c (n * m) s k items next
     → Reads (listed m c) s j (record { count = n; items = items }) next

@@ -3,7 +3,8 @@ use per::cursor::Cursor;
 use per::cursor::Num;
 use per::pen::Pen;
 ghost use mathlib.Core.Path.{_≡_};
-ghost use Prim.Native.Nat.{_≤_};
+ghost use Prim.Native.Nat.{_*_, _≤_};
+ghost use mathlib.Core.Bool.{false};
 ghost use lib.ListN.{take};
 ghost use Rattle.per.specs.Formats.{vec};
 ghost use Rattle.per.specs.Reading.{Reads};
@@ -142,11 +143,46 @@ pub fn write_entries(p: Pen, out: &mut [u8; 128], a: Listed, top: u8) -> Pen
     write_list(p, out, a, 1, top, true)
 }
 
-// A list of names of eight 7-bit characters.
+// n halves of names, four characters at once.
+fn read_halves(c: Cursor, s: &[u8], n: usize) -> Items
+    requires { ⌜ n ≤ 32 ⌝ }
+    ensures { λ r. ⌜ (r .next .refusal ≡ 0 → Filled (entryC false 127) (n * 4) (now (s .entry)) c (r .items) (r .next)) ⌝ }
+{
+    let mut items = [0u8; 128];
+    let mut at = c.at;
+    let mut refusal = c.refusal;
+    let mut i: usize = 0;
+    while i < n {
+        let here = Cursor { at, refusal };
+        let t = here.take(s, 28);
+        let to = t.next;
+        let v = t.value;
+        items[i * 4] = (v / 2097152) as u8;
+        items[i * 4 + 1] = (v % 2097152 / 16384) as u8;
+        items[i * 4 + 2] = (v % 2097152 % 16384 / 128) as u8;
+        items[i * 4 + 3] = (v % 2097152 % 16384 % 128) as u8;
+        at = to.at;
+        refusal = to.refusal;
+        i = i + 1;
+    }
+    let next = Cursor { at, refusal };
+    Items { items, next }
+}
+
+// A list of names of eight 7-bit characters. One that is cut short is read again character by character, so that the refusal stands where it is met.
 pub fn read_names(c: Cursor, s: &[u8]) -> ListedRead
     ensures { λ r. ⌜ Reads namesC (now (s .entry)) c (r .value) (r .next) ⌝ }
 {
-    read_list(c, s, 8, 127, false)
+    let n = c.count(s);
+    let count = n.value;
+    let r = read_halves(n.next, s, count as usize * 2);
+    let next = r.next;
+    if next.refusal != 0 {
+        return read_list(c, s, 8, 127, false);
+    }
+    let items = r.items;
+    let value = Listed { count, items };
+    ListedRead { value, next }
 }
 
 pub fn write_names(p: Pen, out: &mut [u8; 128], a: Listed) -> Pen
