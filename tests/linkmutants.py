@@ -10,6 +10,7 @@ import dataclasses
 import functools
 import operator
 
+from altering import altered_row, altered_steps, replaced, step_name, swapped, with_row
 from linkmodel import (ASKED, DOWNLINK, INTERVAL_STATES, LIMITS, MODULES, ORDER, REASONS, RULES, WORDS, Box, Link, call_of,
                        read, seconds, trace)
 from linkscripts import LI_STATES, STATES
@@ -25,55 +26,14 @@ def changed(link=Link, made=Box, **fields):
 judged = functools.partial(changed, order=ORDER)
 
 
-def without(sequence, place):
-    return sequence[:place] + sequence[place + 1:]
-
-
-def replaced(sequence, place, entry):
-    return sequence[:place] + (entry,) + sequence[place + 1:]
-
-
-def swapped(sequence, place):
-    return sequence[:place] + (sequence[place + 1], sequence[place]) + sequence[place + 2:]
-
-
 # Rows
 
 CONDITIONS = (' if it runs', ' without an emergency', ' if PC is ACTIVE')
 
 
-def step_name(step):
-    return step.replace(' ', '-')
-
-
-def altered_steps(todo):
-    """(name, steps): one left out, two in the other order, one without its condition."""
-    for place, step in enumerate(todo):
-        yield f'no-{step_name(step)}', without(todo, place)
-        if place + 1 < len(todo):
-            yield f'{step_name(todo[place + 1])}-before-{step_name(step)}', swapped(todo, place)
-        for condition in CONDITIONS:
-            if step.endswith(condition):
-                bare = step[:-len(condition)]
-                yield f'always-{step_name(bare)}', replaced(todo, place, bare)
-
-
-def altered_row(row, states):
-    """(name, row), None for a row that is missing."""
-    todo, after = row
-    yield 'drop', None
-    yield from ((name, (steps, after)) for name, steps in altered_steps(todo))
-    yield from ((f'to-{state}', (todo, state)) for state in states if state != after)
-
-
-def with_row(rows, key, row):
-    rows = {**rows, key: row}
-    return rows if row else {known: rows[known] for known in rows if known != key}
-
-
 def row_mutants():
     for key, row in RULES.rows.items():
-        for name, new in altered_row(row, STATES[key[0]]):
+        for name, new in altered_row(row, STATES[key[0]], CONDITIONS):
             yield '.'.join((*key, name)), changed(rows=with_row(RULES.rows, key, new))
 
 
