@@ -384,6 +384,9 @@ class Box(sidemodel.Box):
     def __init__(self, rules=RULES, link=Link):
         super().__init__(rules, link)
 
+    def kind_of(self, call):
+        return call.kind
+
 
 def trace(script, rules=RULES, link=Link, made=Box):
     return sidemodel.trace('adsc trace 1', made(rules, link), script)

@@ -124,8 +124,8 @@ class Coverage:
         self.ends = collections.Counter()       # (one of ENDS, edge)
         self.started = None                     # the row that started PC2 last
 
-    def note(self, link, line):
-        call = call_of(line)
+    def note(self, box, line):
+        link, call = box.link, call_of(line)
         kind = kind_of(link, call)
         self.lines[link.li if link else BEFORE, kind] += 1
         self.joints['END'] += link is not None and link.li == 'END'

@@ -65,7 +65,7 @@ class Maker:
             size = rng.randint(0, 3)
         for _ in range(size):
             line = self.line()
-            self.coverage.note(self.box.link, line)
+            self.coverage.note(self.box, line)
             self.box.answer(line)
             made.append(line)
         return b'\n'.join(made) + (b'\n' if made and rng.random() < 0.9 else b'')

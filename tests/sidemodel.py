@@ -161,7 +161,7 @@ def line_of(words):
 
 
 class Call:
-    """A line taken apart, as far as it can be. A side adds which event a request is and of what kind LI finds the call."""
+    """A line taken apart, as far as it can be. A side adds which event a request is."""
 
     def __init__(self, line, formed):
         text = line.decode('latin-1')
@@ -175,14 +175,14 @@ class Call:
 
 class Box:
     """The link, once there is one, and the answers to lines. Each refusal judges alone: their order is a table. A side adds how a line
-    is taken apart (call_of), its words, and the kinds of request that go to a module (to_modules)."""
+    is taken apart (call_of), its words, as what LI finds a call (kind_of), and the kinds that ask a module (to_modules)."""
 
     def __init__(self, rules, link):
         self.rules, self.make, self.link = rules, link, None
 
     def not_readable(self, call):
         # "`req` takes a written ground PDU: one that doesn't read is 17, one that is no request is 1. Lines before a
-        # good `set`, a `set` after it and lines over 4,096 octets are 17."
+        # good `set`, a `set` after it and lines over 4,096 octets are 17." On the air side an aircraft PDU.
         limits = self.rules.limits
         readable = call.formed and call.size <= limits['line'] and all(n <= limits['number'] for n in call.numbers)
         placed = (call.word == 'set') == (self.link is None)
@@ -202,9 +202,10 @@ class Box:
     def not_listed(self, call):
         if self.link is None or call.word not in self.words or call.word in ('set', 'elapse'):
             return 0
-        if (self.link.li, call.kind) not in self.rules.li:
+        kind = self.kind_of(call)
+        if (self.link.li, kind) not in self.rules.li:
             return 1 if call.word in self.rules.asked else 2
-        return 1 if call.kind in self.to_modules and self.link.row(call.event) is None else 0
+        return 1 if kind in self.to_modules and self.link.row(call.event) is None else 0
 
     def act(self, call):
         if call.word == 'set':
@@ -212,7 +213,7 @@ class Box:
             return []
         if call.word == 'elapse':
             return self.link.elapse(call.numbers[0])
-        return self.link.call(call.kind, call.octets)
+        return self.link.call(self.kind_of(call), call.octets)
 
     def answer(self, line):
         call = self.call_of(line)
