@@ -11,9 +11,11 @@ every pair of a state and an event and every timer's end were met; with `all`, e
 was told apart.
 """
 
+import functools
 import sys
 
 import linkmodel
+import traces
 from compare_scripts import Side, main
 from linkmutants import MUTANTS
 from linkscripts import EVENTS, Coverage, Maker, ends_due, lines_due, pairs_due
@@ -38,7 +40,7 @@ def notes(coverage):
            f'with events {len(coverage.joint_pairs)}/{(3 * 5 * 5 * 3 - 1) * len(EVENTS) + 9}')
 
 
-SIDE = Side(linkmodel.trace, MUTANTS, Maker, Coverage, ENTRIES, due, faults, notes)
+SIDE = Side(linkmodel.trace, MUTANTS, Maker, Coverage, ENTRIES, due, faults, notes, functools.partial(traces.stored, 'ground'))
 
 if __name__ == '__main__':
     sys.exit(main(__doc__, SIDE))

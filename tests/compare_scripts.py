@@ -35,6 +35,7 @@ class Side:
     due: callable           # coverage -> what -> what of it has to be met, and how often each was
     faults: callable        # coverage -> what else is wrong
     notes: callable         # coverage -> lines that are printed
+    stored: callable        # -> scripts that are stored; they tell changed models apart too
 
 
 class Program:
@@ -160,7 +161,7 @@ def told_apart(model, traces):
 
 def mutate_all(side, scripts):
     """Each changed model against the plain one, up to the first script that tells them apart."""
-    traces = [(script, side.trace(script)) for script in scripts]
+    traces = [(script, side.trace(script)) for script in [*scripts, *side.stored()]]
     missed = [name for name, model in side.mutants.items() if not told_apart(model, traces)]
     print(f'changed models {len(side.mutants)}, told apart {len(side.mutants) - len(missed)}')
     for name in missed:
