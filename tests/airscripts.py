@@ -214,7 +214,7 @@ def lines_due():
 
 
 def ends_due():
-    """A day and a second is no elapse, and in no time none goes by."""
+    """A day and a second is no elapse."""
     return [(history, edge) for history in (*SINCE, *SIZES) for edge in EDGES.values()
             if (history, edge) != (MOST, 'a second more')]
 

@@ -12,6 +12,7 @@ is asked and EM3's end were met, rows and cells by the stored scripts too; with 
 model was told apart.
 """
 
+import collections
 import functools
 import math
 import sys
@@ -24,14 +25,17 @@ from compare_scripts import Side, main
 
 ENTRIES = ('start-rsp', 'data-req', 'end-rsp', 'abort-req', 'ind', 'ind abort', 'ind peer-abort', 'start', 'stop')
 
-
 stored = functools.partial(traces.stored, 'air')
 
 
+@functools.lru_cache(maxsize=None)
+def by_stored():
+    return covered(stored())
+
+
 def due(coverage):
-    known = covered(stored())
     return {'rows': (ROWS_DUE, coverage.rows), 'cells without a row': (CELLS_DUE, coverage.cells),
-            'rows, by stored scripts': (ROWS_DUE, known.rows), 'cells, by stored scripts': (CELLS_DUE, known.cells),
+            'rows, by stored scripts': (ROWS_DUE, by_stored().rows), 'cells, by stored scripts': (CELLS_DUE, by_stored().cells),
             'pairs': (pairs_due(), coverage.pairs), 'LI states and lines': (lines_due(), coverage.lines),
             'ends of EM3': (ends_due(), coverage.ends)}
 
@@ -43,6 +47,8 @@ def faults(coverage):
 
 
 def notes(coverage):
+    tables = collections.Counter(event if event == 'stop operation' else table for table, _, event in ROWS_DUE)
+    yield 'rows by table: ' + ', '.join(f'{table} {count}' for table, count in tables.items())
     yield f'states of all four modules together {len(coverage.joints)}/{math.prod(map(len, STATES.values()))}'
 
 

@@ -32,7 +32,7 @@ class Side:
     maker: callable         # random numbers, coverage -> what makes scripts
     coverage: callable      # -> what notes what scripts met
     entries: tuple          # of action lists, that are due
-    due: callable           # coverage -> what -> what of it has to be met, and how often each was
+    due: callable           # coverage -> what -> what of it has to be met, maybe with where it stands, and how often each was
     faults: callable        # coverage -> what else is wrong
     notes: callable         # coverage -> lines that are printed
     stored: callable        # -> scripts that are stored; they tell changed models apart too
@@ -116,7 +116,8 @@ def faults_of(side, met, longest, coverage):
     faults += [f'refusal {number} was due' for number in met if isinstance(number, int) and number not in REFUSALS]
     faults += [f'no {entry} was due' for entry in side.entries if not met[entry]]
     faults += ['an action list has more than 8 entries'] if longest > 8 else []
-    faults += [f'{what}: not met: {key}' for what, (due, times) in side.due(coverage).items() for key in due if not times[key]]
+    faults += [f'{what}: not met: {key} {due[key] if isinstance(due, dict) else ""}'.rstrip()
+               for what, (due, times) in side.due(coverage).items() for key in due if not times[key]]
     return faults + side.faults(coverage)
 
 
