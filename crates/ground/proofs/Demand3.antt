@@ -9,13 +9,14 @@ use lib.ListN.{length, getD, set, length-append}
 use lib.Seq.{getD-set-same, getD-set-other}
 use borrow.Author.Tests.{eq-eqb, eqb-true, eqb-false, le-leb}
 use Rattle.link.specs.Tests.{both, either, below}
-use Rattle.link.specs.Names.{timers, EC, PC, LI}
-use Rattle.link.specs.Watch.{runs, settingOk}
+use Rattle.link.specs.Names.{timers, EC, PC, LI, DATA-REQUEST}
+use Rattle.link.specs.Watch.{runs, settingOk, idle, liIs}
 use Rattle.link.specs.Acts.{acts, pushedAll}
 use Rattle.link.specs.Clock.{notDue}
 use Rattle.link.specs.Step.{actsOf, performed, begun, added, stopped, restAt}
 use Rattle.link.specs.declared.moves.Move.{Move}
 use Rattle.link.proofs.Laws.{both-left, both-right, both-T, eq-T, T-eq}
+use Rattle.link.specs.Moves.{liTo}
 use Rattle.sides.specs.Tables.{balanced}
 use Rattle.sides.specs.Runs.{View, Sound, Part, stepped, steps, saidOf, Loads, Fit, Fits, rested, Does, waits, plays, stops, after, total, Untouched, Watched}
 use Rattle.sides.specs.Runs as runs-of
@@ -26,15 +27,15 @@ use Rattle.sides.proofs.Ways.{played-said, first-fit, first-sound, second-goes,
 use Rattle.sides.proofs.Demand3 as sides
 use Rattle.sides.proofs.Demand3.{Lawful}
 use Rattle.ground_tables.specs.Names.{ACTIVE, EC1, EC2, LI-IDLE, LI-START, LI-ACTIVE, LI-END}
-use Rattle.ground_tables.specs.Moves.{liTo, liEnd, liOver}
+use Rattle.ground_tables.specs.Moves.{liEnd, liOver}
 use Rattle.ground_tables.specs.Watch.{groundWatch}
 use Rattle.ground_tables.specs.Intervals.{intervalOk, intervalsOk, agreed, intervalRow}
-use Rattle.ground_tables.specs.Tables.{idle, liIs, liBusy, groundAlso, tops, groundTables}
+use Rattle.ground_tables.specs.Tables.{liBusy, groundAlso, tops, groundTables}
 use Rattle.ground_tables.proofs.Fitting.{ground-fits}
 use Rattle.ground_tables.proofs.KeptIntervals.{asksWell, intervals-kept, agreed-other, force-most}
 use Rattle.ground_answer.specs.Record.{loads, view, good, fresh, followed, cleared, turned, moveAt, agreedAt, went}
 use Rattle.ground_answer.specs.declared.record.Link.{Link}
-use Rattle.ground_answer.specs.Answers.{DATA-REQUEST, END-REQUEST, LATE}
+use Rattle.ground_answer.specs.Answers.{END-REQUEST, LATE}
 use Rattle.ground_answer.specs.Aborts.{aborted, closed}
 use Rattle.ground_answer.specs.Clock.{waited, elapsed}
 use Rattle.ground.specs.Requests.{cancelled}

@@ -10,21 +10,22 @@ use Rattle.pdu.specs.declared.uplink.Ground.{Ground}
 use Rattle.pdu.specs.declared.downlink.AirPdu.{AirPdu}
 use Rattle.pdu.specs.DownlinkTable.{airC}
 use Rattle.link.specs.Tests.{either, pick, below}
-use Rattle.link.specs.Names.{timers}
+use Rattle.link.specs.Names.{timers, ABORT-REQUEST, ABORT-IND, PEER-ABORT-IND, DATA-REQUEST}
 use Rattle.link.specs.Clock.{notDue}
 use Rattle.link.specs.Step.{performed}
 use Rattle.link.proofs.Laws.{eq-T}
+use Rattle.link.specs.Watch.{idle, liIs}
 use Rattle.sides.specs.Runs.{seconds}
 use Rattle.ground_tables.specs.Names.{LI-IDLE, LI-START, LI-ACTIVE, LI-END}
 use Rattle.ground_tables.specs.Moves.{liEnd}
-use Rattle.ground_tables.specs.Tables.{idle, liIs, liBusy}
+use Rattle.ground_tables.specs.Tables.{liBusy}
 use Rattle.ground_tables.proofs.KeptIntervals.{asksWell}
 use Rattle.ground_answer.specs.Record.{loads, good, moveAt, agreedAt, went}
 use Rattle.ground_answer.specs.declared.record.Link.{Link}
 use Rattle.ground_answer.specs.Events.{cancel-all, requestEvent, asksFor, airEvent}
 use Rattle.ground_answer.specs.Sent.{outgoing}
 use Rattle.ground_answer.specs.declared.sent.Sent.{Sent}
-use Rattle.ground_answer.specs.Answers.{ABORT-REQUEST, ABORT-IND, PEER-ABORT-IND, START-REQUEST, DATA-REQUEST, END-REQUEST, refusal, tells, allowed}
+use Rattle.ground_answer.specs.Answers.{START-REQUEST, END-REQUEST, refusal, tells, allowed}
 use Rattle.ground_answer.specs.Aborts.{aborted, closed, closedWhen}
 use Rattle.ground_answer.specs.Clock.{waited, elapsed}
 use Rattle.ground.proofs.Asks.{asked-well, data-well}
