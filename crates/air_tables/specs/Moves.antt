@@ -1,6 +1,6 @@
 -- The air tables of 000 and 002, a row for each clause: at a state, on an event, what is done. 000:87 is line 87 of 000. Where a cell has no row, 000 and 002 have "not permitted" for
 -- what the user asks, which is refusal 1, and "request AB to abort" for data, which is abort 3.
-use mathlib.Core.Bool.{Bool}
+use mathlib.Core.Bool.{Bool, true}
 use mathlib.Core.List.{List, [], _∷_}
 use Prim.Native.Nat.{ℕ}
 use lib.ListN.{getD}

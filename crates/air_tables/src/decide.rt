@@ -117,6 +117,8 @@ pub fn halt(who: u8) -> Move
 pub fn halt_em(state: u8) -> Move
     ensures { λ r. ⌜ r ≡ stop (em3At state) (to EM IDLE) ⌝ }
 {
-    let em3: u8 = if state == CANCEL { EM3 } else { NO_TIMER };
-    go(EM, IDLE, em3, false, false, NO_TIMER)
+    if state == CANCEL {
+        return go(EM, IDLE, EM3, false, false, NO_TIMER);
+    }
+    halt(EM)
 }
