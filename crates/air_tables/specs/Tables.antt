@@ -8,7 +8,6 @@ use Rattle.link.specs.Tests.{both, pick}
 use Rattle.link.specs.Names.{DC, EC, PC, EM, LI, IDLE}
 use Rattle.link.specs.Moves.{to, stop, liTo}
 use Rattle.link.specs.Watch.{idle, liIs}
-use Rattle.link.specs.declared.moves.Move.{Move}
 use Rattle.sides.specs.Tables.{Tables}
 use Rattle.air_tables.specs.Names.{DC-ACTIVE, ACTIVE-PENDING, CANCEL, EM3, LI-IDLE, LI-START, LI-ACTIVE}
 use Rattle.air_tables.specs.Moves.{airRows, liAnswer}

@@ -4,7 +4,6 @@ use mathlib.Core.List.{[]}
 use Prim.Native.Nat.{ℕ}
 use Rattle.link.specs.Step.{stoppedThen, abortedAll}
 use Rattle.pdu.specs.declared.uplink.Ground as ground
-use Rattle.link.specs.Names.{ABORT-REQUEST, ABORT-IND}
 use Rattle.ground_answer.specs.Sent.{sent, outgoing}
 use Rattle.ground_answer.specs.Answers.{tells, allowed}
 use Rattle.ground_answer.specs.Record.{cleared}

@@ -3,11 +3,11 @@ use mathlib.Core.Bool.{Bool, true, not}
 use mathlib.Core.List.{List, [], _∷_}
 use Prim.Native.Nat.{ℕ}
 use lib.Dec.{eqb}
-use lib.ListN.{getD}
 use Rattle.link.specs.Tests.{both, either, pick}
-use Rattle.link.specs.Names.{DC, EC, PC, EM, LI, IDLE}
-use Rattle.link.specs.declared.moves.Move.{Move}
+use Rattle.link.specs.Names.{PC, LI}
 use Rattle.link.specs.Moves.{liTo}
+use Rattle.link.specs.Watch.{idle, liIs}
+use Rattle.link.specs.declared.moves.Move.{Move}
 use Rattle.sides.specs.Tables.{Tables}
 use Rattle.ground_tables.specs.Names.{DC-ACTIVE, CANCEL, MODIFY, LI-IDLE, LI-START, LI-ACTIVE, LI-END, DC1, DC2, EC1, EC2, PC1, PC2, PC3, EM1, EM2}
 use Rattle.ground_tables.specs.Moves.{groundRows, liEnd, liOver}
