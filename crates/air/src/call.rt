@@ -10,13 +10,15 @@ use crate::requests::user_abort;
 use air_answer::answer::Answer;
 use air_answer::clock::elapse;
 use air_answer::record::AirLink;
+use pdu::downlink::Air;
 use pdu::downlink::AirPdu;
+use pdu_parts::lists::Listed;
 ghost use mathlib.Core.Path.{_≡_};
 ghost use Rattle.air.specs.Runs.{answered};
 
-// The calls on an air link; the octets of StartInd, Data, EndInd and GroundAbort stand beside.
+// The calls on an air link; the list of a Request and the octets of StartInd, Data, EndInd and GroundAbort stand beside.
 pub enum Call {
-    Request(AirPdu),
+    Request(Air),
     UserAbort,
     Elapse(u32),
     StartInd,
@@ -27,11 +29,11 @@ pub enum Call {
     Down,
 }
 
-pub fn answer(l: AirLink, call: Call, octets: &[u8]) -> Answer
-    ensures { λ r. ⌜ r ≡ answered l call (now (octets .entry)) ⌝ }
+pub fn answer(l: AirLink, call: Call, list: Listed, octets: &[u8]) -> Answer
+    ensures { λ r. ⌜ r ≡ answered l call list (now (octets .entry)) ⌝ }
 {
     match call {
-        Call::Request(a) => request(l, a),
+        Call::Request(kind) => request(l, AirPdu { kind, list }),
         Call::UserAbort => user_abort(l),
         Call::Elapse(n) => elapse(l, n),
         Call::StartInd => start_ind(l, octets),
