@@ -36,12 +36,13 @@ ghost use Rattle.air.specs.Arrivals.{ackOf, passed, taken, indicated, ar
 fn ack_of(m: Move) -> Sent
     ensures { λ r. ⌜ r ≡ ackOf m ⌝ }
 {
-    if m.send {
-        let request: u32 = if m.who == EC { 3 } else { 4 };
-        own(Air::Positive(request))
-    } else {
-        nothing()
+    if !m.send {
+        return nothing();
     }
+    if m.who == EC {
+        return own(Air::Positive(3));
+    }
+    own(Air::Positive(4))
 }
 
 // Data for the modules, with LI then at `li`: what is not listed is abort 3.
