@@ -1,1 +1,4 @@
 pub mod Moving
+pub mod Keeps
+pub mod Every
+pub mod Ends
