@@ -5,13 +5,12 @@ use mathlib.Core.List.{List, [], _∷_}
 use Prim.Native.Nat.{ℕ, _+_, _≤_}
 use native.Mathlib.Omega.{arith}
 use lib.Dec.{T, eqb, lit≤}
-use lib.ListN.{length, getD, set}
+use lib.ListN.{length, getD}
 use Rattle.link.specs.Tests.{pick}
-use Rattle.link.specs.Names.{no-timer, DC, EC, PC, EM, LI, IDLE}
+use Rattle.link.specs.Names.{no-timer, DC, EC, PC, EM, IDLE}
 use Rattle.link.specs.Moves.{to, stop}
 use Rattle.link.specs.Watch.{idle, liIs}
 use Rattle.link.specs.Step.{actsOf}
-use Rattle.link.specs.declared.moves.Move.{Move}
 use Rattle.link.proofs.Laws.{eq-T}
 use Rattle.sides.specs.Tables.{statesOk, balanced}
 use Rattle.sides.specs.Runs.{saidOf, stepped, Loads, Fits}
@@ -72,12 +71,22 @@ five-fit s left told a b c d e one ok h =
     let ok₅ = balanced-states airTables (0 ∷ 0 ∷ 0 ∷ d ∷ 2 ∷ []) (stop (pick (eqb d CANCEL) EM3 no-timer) (to EM IDLE)) m₅ in
     let m₆ = own (0 ∷ 0 ∷ 0 ∷ 0 ∷ 2 ∷ []) refl ok₅ .1 .1 .1 .1 .1 .1 .1 .1 .1 .0 tt in (
       record { moves = m₁; loads = one; steady = λ t lt q. refl },
-      (record { moves = m₂; loads = one; steady = λ t lt q. refl },
-      (record { moves = m₃; loads = one; steady = λ t lt q. refl },
-      (record { moves = m₄; loads = one; steady = λ t lt q. refl },
-      (record { moves = m₅; loads = one; steady = λ t lt q. refl },
-      (record { moves = m₆; loads = one; steady = λ t lt q. refl },
-      tt))))),
+      (
+        record { moves = m₂; loads = one; steady = λ t lt q. refl },
+        (
+          record { moves = m₃; loads = one; steady = λ t lt q. refl },
+          (
+            record { moves = m₄; loads = one; steady = λ t lt q. refl },
+            (
+              record { moves = m₅; loads = one; steady = λ t lt q. refl },
+              (
+                record { moves = m₆; loads = one; steady = λ t lt q. refl },
+                tt,
+              ),
+            ),
+          ),
+        ),
+      ),
     )
 
 pub ended-fits : (l : AirLink) (told : Bool) → length (l .at) ≡ 5 → Loads (loads l) → T (statesOk airTables (l .at)) → T (liIs (l .at) LI-ACTIVE) → Fits airTables (view l) (endParts l told)

@@ -1,14 +1,11 @@
 -- A good air link as the machinery sees it, and what its starts load. Assumes nothing.
-use mathlib.Core.Path.{_≡_}
+use mathlib.Core.Path.{_≡_, refl}
 use mathlib.Core.Bool.{Bool, true, false}
-use mathlib.Core.Path.{refl}
-use Prim.Native.Nat.{ℕ, _<_, _≤_}
-use native.Mathlib.Omega.{arith}
+use Prim.Native.Nat.{ℕ, _≤_}
 use lib.Dec.{T, eqb, lit≤}
-use lib.ListN.{length, getD, replicate, length-replicate, getD-replicate}
-use lib.Seq.{getD-set-same, getD-set-other}
+use lib.ListN.{length, getD, replicate, getD-replicate}
+use lib.Seq.{getD-set-other}
 use borrow.Author.Tests.{eqb-true, eqb-false}
-use Rattle.link.specs.Tests.{both}
 use Rattle.link.specs.Names.{timers}
 use Rattle.link.specs.Watch.{secondsOk}
 use Rattle.link.specs.Step.{restAt}

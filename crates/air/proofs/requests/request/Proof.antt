@@ -1,8 +1,6 @@
 use borrow.Author.Needs.{needs}
 use Rattle.air.specs.Requests.{requested}
-use mathlib.Core.Path.{sym, ap, _∙_}
-use Prim.Native.Nat.{ℕ}
-use lib.Dec.{eqb}
+use mathlib.Core.Path.{sym, _∙_}
 use borrow.Author.Tests.{not-true, not-false, eq-eqb, ne-eqb}
 use Rattle.air.proofs.requests.request.Statement.{statement}
 use Rattle.air.proofs.requests.request.Tie as tie
