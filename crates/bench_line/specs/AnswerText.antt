@@ -8,9 +8,9 @@ use Rattle.text.specs.Letters.{ascii}
 use Rattle.text.specs.Text.{pick, hexText, decimal}
 use Rattle.text.specs.Page.{Page, Writes}
 use Rattle.text.specs.Words.{wordAt, refusedText}
-use Rattle.ground_answer.specs.Answers.{START-REQUEST, DATA-REQUEST, END-REQUEST, ABORT-REQUEST, ABORT-IND, PEER-ABORT-IND, LATE}
+use Rattle.ground_answer.specs.Answers.{START-REQUEST, END-REQUEST, LATE}
 use Rattle.ground_answer.specs.declared.answer.Said.{Said}
-use Rattle.link.specs.Names.{IND, STOP, START}
+use Rattle.link.specs.Names.{IND, STOP, START, DATA-REQUEST, ABORT-REQUEST, ABORT-IND, PEER-ABORT-IND}
 
 -- a space and HEX, or nothing where there are no octets
 unfoldable pub spaced : List ℕ → List ℕ
