@@ -7,9 +7,10 @@ use lib.ListN.{length, take, length-take}
 use lib.Seq.{length-take-le}
 use denote.Ref.{now}
 use Rattle.text.proofs.Laws.{take-least}
-use Rattle.bench_line.specs.Lines.{parsedIn}
-use Rattle.bench_line.proofs.LineCalls.{with-room}
-use Rattle.bench.specs.Replies.{answerReply, playReply}
+use Rattle.bench_line.specs.Lines.{parsedIn, groundScript}
+use Rattle.script.specs.Replies.{playReply}
+use Rattle.script.proofs.Heard.{with-room}
+use Rattle.bench.specs.Replies.{answerReply}
 use borrow.Author.Needs.{needs}
 use Rattle.bench.proofs.reply.play.Statement.{statement}
 use Rattle.bench.proofs.reply.play.Tie as tie
@@ -40,7 +41,7 @@ unfolding playReply parsedIn
 returns c =
     let k = c .before .before .before .before .before .before .before in
     let line = now (k .before .before .before .before .before .args .line) in
-    let is = with-room (length (k .before .before .blank .result)) line (omega (arith, k .before .before .blank .ensures)) in
+    let is = with-room groundScript (length (k .before .before .blank .result)) line (omega (arith, k .before .before .blank .ensures)) in
     rw (← is, ← k .parse-line .ensures, c .before .before .before .before .enum-told .given .1) (c .before .before .refuse-line .ensures)
 
 least-requires : tie.Need-least-requires
@@ -72,16 +73,16 @@ unfolding playReply parsedIn answerReply
 returns-2 c =
     let a = c .before .before .before .before .before .before .before in
     let l = a .before .before in
-    let t = l .before .before in
+    let t = l .before .before .before in
     let k = t .before .before .before in
     let line = now (k .before .before .before .before .before .args .line) in
     let blank = k .before .before .blank in
     let octets = k .parse-line .last .1 .0 in
-    let is = with-room (length (blank .result)) line (omega (arith, blank .ensures)) in
+    let is = with-room groundScript (length (blank .result)) line (omega (arith, blank .ensures)) in
     let whole = k .parse-line .kept .1 .0 ∙ sym (blank .ensures) in
     let short : length (take (l .least .result) octets) ≤ 2048 = omega (arith, l .least .ensures .within, length-take (l .least .result) octets, min-le-left (l .least .result) (length octets)) in
     rw (← is, ← k .parse-line .ensures, t .told .given .1, ← take-least (t .told .given .0 .1 .0) 2048 octets whole, ← l .least .ensures .is, ← a .answer-lent .ensures)
-    (record { bench-is = refl; text-is = c .before .before .put-answer .ensures .text-is; short = le-trans (c .before .before .put-answer .ensures .short short) (lit≤ tt) })
+    (record { box-is = refl; text-is = c .before .before .put-answer .ensures .text-is; short = le-trans (c .before .before .put-answer .ensures .short short) (lit≤ tt) })
 
 pub play-spec : {M : Type 1} → statement M
 play-spec =
