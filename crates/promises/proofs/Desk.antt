@@ -6,9 +6,9 @@ use Prim.Native.Nat.{ℕ, _<_}
 use native.Mathlib.Omega.{arith}
 use lib.Dec.{lit<}
 use lib.ListN.{getD}
-use Rattle.link.specs.Names.{timers, PC, EM}
+use Rattle.link.specs.Names.{timers, PC, EM, IDLE}
 use Rattle.link.specs.Watch.{runs}
-use Rattle.ground_tables.specs.Names.{IDLE, ACTIVE, PC2}
+use Rattle.ground_tables.specs.Names.{ACTIVE, PC2}
 use Rattle.ground_tables.specs.Watch.{groundWatch}
 use Rattle.promises.proofs.Timers.{timers-hold}
 use Rattle.promises.specs.Timers.{played, Timers, Desk}

@@ -23,15 +23,15 @@ use Rattle.pdu.specs.declared.downlink.AirPdu.{AirPdu}
 use Rattle.pdu.specs.UplinkTable.{groundAlt, groundC}
 use Rattle.pdu.specs.DownlinkTable.{airC}
 use Rattle.link.specs.Tests.{pick, either, below}
-use Rattle.link.specs.Names.{timers, GOES}
+use Rattle.link.specs.Names.{timers, GOES, DATA-REQUEST, ABORT-REQUEST, ABORT-IND, PEER-ABORT-IND}
 use Rattle.link.specs.Clock.{notDue}
 use Rattle.link.proofs.Laws.{no-true}
+use Rattle.link.specs.Watch.{idle, liIs}
 use Rattle.sides.specs.Tables.{member}
-use Rattle.ground_answer.specs.Answers.{START-REQUEST, DATA-REQUEST, ABORT-REQUEST, ABORT-IND, PEER-ABORT-IND, refusal, allowed}
+use Rattle.ground_answer.specs.Answers.{START-REQUEST, refusal, allowed}
 use Rattle.ground_answer.specs.Record.{good, moveAt, went}
 use Rattle.ground_answer.specs.Events.{airEvent, cancel-all, requestEvent}
 use Rattle.ground_tables.specs.Names.{LI-IDLE, LI-START, LI-ACTIVE, LI-END}
-use Rattle.ground_tables.specs.Tables.{idle, liIs}
 use Rattle.ground_answer.specs.Aborts.{aborted, closed, closedWhen}
 use Rattle.ground_answer.specs.Clock.{waited, elapsed}
 use Rattle.ground_answer.specs.Sent.{letterOf, outgoing}

@@ -12,7 +12,7 @@ use Rattle.link.specs.Acts.{acts}
 use Rattle.sides.specs.Tables.{member}
 use Rattle.ground_tables.specs.Names.{LI-START, LI-ACTIVE}
 use Rattle.ground_answer.specs.Record.{good}
-use Rattle.ground_answer.specs.Reasons.{INVALID-PDU, TIMER-EXPIRY}
+use Rattle.pdu.specs.Reasons.{INVALID-PDU, TIMER-EXPIRY}
 use Rattle.ground_answer.specs.declared.record.Link.{Link}
 use Rattle.ground_answer.specs.Sent.{sent}
 use Rattle.ground_answer.specs.Aborts.{aborted}

@@ -5,16 +5,16 @@ use mathlib.Core.List.{List}
 use Prim.Native.Nat.{ℕ, _+_, _≤_, _<_}
 use lib.Dec.{T, eqb}
 use lib.ListN.{length, getD}
-use Rattle.link.specs.Names.{timers, EC, PC, EM}
+use Rattle.link.specs.Names.{timers, EC, PC, EM, IDLE}
 use Rattle.link.specs.Tests.{pick}
 use Rattle.link.specs.Watch.{runs}
 use Rattle.sides.specs.Runs.{after, total, Untouched}
-use Rattle.ground_tables.specs.Names.{IDLE, ACTIVE, EC1, EC2, PC2}
+use Rattle.ground_tables.specs.Names.{ACTIVE, EC1, EC2, PC2}
 use Rattle.ground_tables.specs.Watch.{groundWatch}
 use Rattle.ground_tables.specs.Intervals.{intervalsOk}
 use Rattle.ground_answer.specs.Record.{fresh}
 use Rattle.ground_answer.specs.Aborts.{aborted}
-use Rattle.ground_answer.specs.Reasons.{TIMER-EXPIRY}
+use Rattle.pdu.specs.Reasons.{TIMER-EXPIRY}
 use Rattle.ground_answer.specs.declared.record.Link.{Link}
 use Rattle.ground.specs.Runs.{answered, Made, ground}
 use Rattle.ground.specs.declared.call.Call.the-variants.{Elapse}

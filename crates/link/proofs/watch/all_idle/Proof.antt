@@ -1,9 +1,9 @@
 use borrow.Author.Tests.{eq-eqb, ne-eqb}
 use Rattle.link.proofs.Laws.{both-4}
-use Rattle.ground_tables.specs.Tables.{idle}
+use Rattle.link.specs.Watch.{idle}
 use borrow.Author.Needs.{needs}
-use Rattle.ground_answer.proofs.record.all_idle.Statement.{statement}
-use Rattle.ground_answer.proofs.record.all_idle.Tie as tie
+use Rattle.link.proofs.watch.all_idle.Statement.{statement}
+use Rattle.link.proofs.watch.all_idle.Tie as tie
 
 array-read-if1 : tie.Need-array-read-if1
 array-read-if1 c = search needs
