@@ -16,7 +16,6 @@ use Rattle.ground_answer.specs.declared.fresh.Opened.{Opened}
 use Rattle.ground.specs.declared.call.Call.{Call}
 use Rattle.ground.specs.Runs.{answered}
 use Rattle.bench_line.specs.Settings.{settingsIn}
-use Rattle.bench_line.specs.declared.settings.Settings.{Settings}
 use Rattle.bench_line.specs.Lines.{groundScript}
 use Rattle.bench_line.specs.AnswerText.{answerText}
 use Rattle.script.specs.Replies.{Reply, refusedReply, Bench}

@@ -2,12 +2,12 @@
 use crate::trace::Trace;
 use crate::trace::begin;
 use crate::trace::number_line;
+use script::room::page_room;
 use script::trace::close;
 use text_lines::input::finish;
 use text_lines::input::pull_line;
 use text_lines::input::shown;
 use text_lines::input::start;
-ghost use mathlib.Core.Path.{_≡_};
 ghost use mathlib.Core.Bool.{true};
 ghost use mathlib.Core.List.{[]};
 ghost use Prim.Native.Nat.{_+_, _≤_};
@@ -18,13 +18,6 @@ ghost use Rattle.script.specs.Trace.{bumped, Stands};
 ghost use Rattle.script.specs.Playing.{Plays};
 ghost use Rattle.bench.specs.Replies.{groundBench};
 ghost use Rattle.bench.specs.Trace.{numbered};
-
-// Twice what a full page has: room for the answer to any line.
-fn page_buffer() -> [u8; 131072]
-    ensures { λ r. ⌜ 131072 ≡ length r ⌝ }
-{
-    [0; 131072]
-}
 
 // A line answered on a page that has room: what stood there stays, and the whole answer stands behind it.
 fn add_line(t: Trace, line: &[u8], out: &mut [u8]) -> Trace
@@ -72,7 +65,7 @@ fn run(t: Trace, chunk: &mut [u8], line: &mut [u8], out: &mut [u8]) -> Played
 pub fn play() {
     let mut chunk = io::large_buffer();
     let mut line = [0u8; 4097];
-    let mut out = page_buffer();
+    let mut out = page_room();
     let t = begin(&mut out);
     let p = run(t, &mut chunk, &mut line, &mut out);
     let last = p.trace;

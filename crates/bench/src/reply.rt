@@ -11,11 +11,11 @@ use ground_answer::record::Link;
 use ground_lent::elapse_lent;
 use refusals::SCRIPT_LINE;
 use script::line::set_part;
+use script::room::line_room;
 use text::least;
 use text::put_text;
 use text::words::put_refused;
 ghost use mathlib.Core.Path.{_≡_};
-ghost use lib.ListN.{length};
 ghost use Rattle.ground.specs.Runs.{answered};
 ghost use Rattle.text.specs.Page.{page};
 ghost use Rattle.bench_line.specs.Lines.{parsedLine};
@@ -41,13 +41,6 @@ fn refuse_line(b: Setup, n: u8, out: &mut [u8], at: usize) -> Replied
     Replied { setup: b, at: a }
 }
 
-// Room for the octets of the longest line. Only its length is stated: its octets are written before they are read.
-fn blank() -> [u8; 2048]
-    ensures { λ r. ⌜ 2048 ≡ length r ⌝ }
-{
-    [0; 2048]
-}
-
 // Every call, with the clock worked on a lent record.
 fn answer_lent(l: Link, call: Call, octets: &[u8]) -> Answer
     ensures { λ r. ⌜ r ≡ answered l call (now (octets .entry)) ⌝ }
@@ -62,7 +55,7 @@ fn answer_lent(l: Link, call: Call, octets: &[u8]) -> Answer
 fn play(b: Setup, line: &[u8], out: &mut [u8], at: usize) -> Replied
     ensures { λ r. ⌜ Replies (playReply groundBench b (parsedLine (now (line .entry)))) (page (now (out .entry)) at) (r .setup) (page (now (out .exit)) (r .at)) ⌝ }
 {
-    let mut octets = blank();
+    let mut octets = line_room();
     let told = parse_line(line, &mut octets);
     let LineCall::Makes(call, n) = told else {
         return refuse_line(b, SCRIPT_LINE, out, at);

@@ -5,3 +5,4 @@ pub mod Ways
 pub mod Steps
 pub mod Whole
 pub mod Playing
+pub mod Rooms

@@ -10,14 +10,8 @@ use Rattle.text.specs.Letters.{ascii}
 use Rattle.text.specs.Text.{pick, both, hexText, decimal}
 use Rattle.text.specs.Page.{Page, Writes}
 use Rattle.text.specs.Words.{wordAt, refusedText}
-use Rattle.link.specs.Names.{IND, STOP, START}
+use Rattle.link.specs.Names.{ABORT-REQUEST, IND, ABORT-IND, STOP, START}
 use Rattle.script.specs.declared.answer.Brief.{Brief}
-
-abbrev pub ABORT-REQUEST : ℕ
-ABORT-REQUEST = 4
-
-abbrev pub ABORT-IND : ℕ
-ABORT-IND = 6
 
 -- a side's names: the words of the entries by their numbers, each with the space before it, and the timers in watch order
 pub record Names : Type 0 where

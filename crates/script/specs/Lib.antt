@@ -4,3 +4,4 @@ pub mod Entries
 pub mod Replies
 pub mod Trace
 pub mod Playing
+pub mod Rooms

@@ -16,10 +16,6 @@ ghost use Rattle.text.specs.Page.{page, Writes};
 ghost use Rattle.text.specs.Words.{wordsOf};
 ghost use Rattle.script.specs.Entries.{names, spaced, timerEntry, entryText, restOf, entriesOf, Briefs};
 
-const ABORT_REQUEST: u8 = 4;
-
-const ABORT_IND: u8 = 6;
-
 // What is said beside the octets that go: the refusal, 0 for none, the reason that an abort indication shows, and the actions.
 pub struct Brief {
     pub refusal: u8,
