@@ -4,3 +4,4 @@ pub mod Every
 pub mod Ends
 pub mod Demand3
 pub mod Promises
+pub mod Cancels

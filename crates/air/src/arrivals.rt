@@ -95,10 +95,10 @@ pub fn data(l: AirLink, octets: &[u8]) -> Answer
         return refuse(l, BAD_RECORD);
     }
     let at = l.at;
-    if at[4] != LI_ACTIVE {
-        return refuse(l, CANNOT_OCCUR);
+    match at[4] {
+        LI_ACTIVE => take(l, LI_ACTIVE, octets),
+        _ => refuse(l, CANNOT_OCCUR),
     }
-    take(l, LI_ACTIVE, octets)
 }
 
 // The end response, with an indication where the user is told; then the modules stop, and LI is IDLE.

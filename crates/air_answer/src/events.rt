@@ -5,19 +5,12 @@ use link::moves::NO_REQUEST;
 use link::moves::OF_EC;
 use link::moves::OF_EM;
 use link::moves::OF_PC;
+use link::moves::by_ack;
 use pdu::downlink::Air;
 use pdu::reasons::UNDEFINED_ERROR;
 use pdu::uplink::Ground;
 ghost use mathlib.Core.Path.{_≡_};
-ghost use Rattle.link.specs.Tests.{pick};
 ghost use Rattle.air_answer.specs.Events.{negativeEvent, positiveEvent, unmetEvent, requestEvent, opens, cancelEvent, uplinkEvent, mayCome, reasonIn};
-
-// One event for a report with the ack, another for a plain one.
-fn by_ack(ack: bool, with: u8, plain: u8) -> u8
-    ensures { λ r. ⌜ r ≡ pick ack with plain ⌝ }
-{
-    if ack { with } else { plain }
-}
 
 fn negative_event(request: u32) -> u8
     ensures { λ r. ⌜ r ≡ negativeEvent request ⌝ }

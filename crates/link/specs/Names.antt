@@ -28,7 +28,7 @@ LI = 4
 abbrev pub IDLE : ℕ
 IDLE = 0
 
--- entries. What goes to the dialogue service is 1 to 4; 1 and 3 have their names on each side. 5 is an indication; a stop and a start of a timer have its number added
+-- entries of an action list. What goes to the dialogue service is 1 to 4; 1 and 3 have their names on each side. 5 is an indication
 abbrev pub DATA-REQUEST : ℕ
 DATA-REQUEST = 2
 
@@ -38,12 +38,14 @@ ABORT-REQUEST = 4
 abbrev pub IND : ℕ
 IND = 5
 
+-- an abort is shown, with its reason; the peer user's
 abbrev pub ABORT-IND : ℕ
 ABORT-IND = 6
 
 abbrev pub PEER-ABORT-IND : ℕ
 PEER-ABORT-IND = 7
 
+-- a stop and a start of a timer have its number added
 abbrev pub STOP : ℕ
 STOP = 16
 

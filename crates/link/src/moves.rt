@@ -1,5 +1,6 @@
 // What an event does: at most one timer stopped, an indication, a send and one timer started, in this order, and the next state of a module.
 ghost use mathlib.Core.Path.{_≡_};
+ghost use Rattle.link.specs.Tests.{pick};
 ghost use Rattle.link.specs.Moves.{go, liTo, unlisted};
 
 // How many timers there are, in watch order.
@@ -85,4 +86,11 @@ pub fn unlisted(kind: u8) -> Move
         who: 0,
         to: 0,
     }
+}
+
+// One event for a report with the ack, another for a plain one.
+pub fn by_ack(ack: bool, with: u8, plain: u8) -> u8
+    ensures { λ r. ⌜ r ≡ pick ack with plain ⌝ }
+{
+    if ack { with } else { plain }
 }

@@ -15,22 +15,22 @@ returns : tie.Need-returns
 unfolding arrived
 returns c = rw (sym (c .before .before .is-good .ensures) ∙ not-true _ (c .before .if1 .taken)) (c .refuse .ensures)
 
-array-read-if2 : tie.Need-array-read-if2
-array-read-if2 c = search needs
+array-read-match : tie.Need-array-read-match
+array-read-match c = search needs
+
+take-requires : tie.Need-take-requires
+take-requires c κs = search needs
 
 refuse-requires-2 : tie.Need-refuse-requires-2
 refuse-requires-2 c κs = search needs
 
 returns-2 : tie.Need-returns-2
 unfolding arrived
-returns-2 c = rw (sym (c .before .before .before .before .is-good .ensures) ∙ not-false _ (c .before .before .before .if1 .left), ne-eqb _ 2 (c .before .if2 .taken)) (c .refuse2 .ensures)
-
-take-requires : tie.Need-take-requires
-take-requires c κs = search needs
+returns-2 c = rw (sym (c .before .before .before .before .is-good .ensures) ∙ not-false _ (c .before .before .before .if1 .left), eq-eqb _ 2 (c .before .match .keys1)) (c .take .ensures)
 
 returns-3 : tie.Need-returns-3
 unfolding arrived
-returns-3 c = rw (sym (c .before .before .before .before .is-good .ensures) ∙ not-false _ (c .before .before .before .if1 .left), eq-eqb _ 2 (c .before .if2 .left)) (c .take .ensures)
+returns-3 c = rw (sym (c .before .before .before .before .is-good .ensures) ∙ not-false _ (c .before .before .before .if1 .left), ne-eqb _ 2 (c .before .match .rest .1)) (c .refuse2 .ensures)
 
 pub data-spec : {M : Type 1} → statement M
 data-spec =
@@ -39,8 +39,8 @@ data-spec =
     is-good-requires
     refuse-requires
     returns
-    array-read-if2
+    array-read-match
+    take-requires
     refuse-requires-2
     returns-2
-    take-requires
     returns-3)
