@@ -6,3 +6,7 @@ pub mod Clock
 pub mod Timers
 pub mod Desk
 pub mod KeptIntervals
+pub mod AirNumbers
+pub mod AirCalls
+pub mod AirTimers
+pub mod AirCancels

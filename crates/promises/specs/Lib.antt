@@ -3,3 +3,4 @@ pub mod Sides
 pub mod Calls
 pub mod Timers
 pub mod Intervals
+pub mod Air

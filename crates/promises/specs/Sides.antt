@@ -1,4 +1,4 @@
--- What demands 1 and 3 say of any side of a link: Calls.antt and Timers.antt say it of the ground's.
+-- What demands 1 and 3 say of any side of a link: Calls.antt and Timers.antt say it of the ground's, Air.antt of the aircraft's.
 use mathlib.Core.Path.{_≡_}
 use mathlib.Core.Bool.{true, false}
 use mathlib.Core.List.{List, []}
