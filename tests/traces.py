@@ -12,7 +12,7 @@ import linkmodel
 
 ROOT = pathlib.Path(__file__).resolve().parent.parent
 MODELS = {"ground": linkmodel, "air": airmodel}
-PLACES = {"ground": [ROOT / "tests/traces", ROOT / "examples"], "air": [ROOT / "tests/traces/air"]}
+PLACES = {"ground": [ROOT / "tests/traces", ROOT / "examples"], "air": [ROOT / "tests/traces/air", ROOT / "examples/air"]}
 # rt plays these pairs too, but asks the program alone.
 PAIRS = {"ground": [(ROOT / "crates/adsc/stdin", ROOT / "crates/adsc/stdout")], "air": [(ROOT / "crates/adsair/stdin", ROOT / "crates/adsair/stdout")]}
 
