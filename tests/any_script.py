@@ -1,29 +1,37 @@
-"""any_script.py PROGRAM [ARGS..]: octets of every kind as a script; the program has to end with the model's trace, octet for octet."""
+"""any_script.py ground|air PROGRAM [ARGS..]: octets of every kind as a script; the program has to end with the trace of the side's model, octet for octet."""
+import collections
 import random
 import subprocess
 import sys
 
+import airmodel
 import broken_input
 import linkmodel
 
-SET = b"set 60 60 60 60 60 60 60 60 60\n"
+# The side's model, a set, a call that opens the link, calls after which data goes on and on, such data, and what may stand behind a word.
+Side = collections.namedtuple("Side", "model set opening deep data tails")
+SIDES = {
+    "ground": Side(linkmodel, b"set 60 60 60 60 60 60 60 60 60\n", b"req 3000", b"req 3000\nstart-cnf 2130\n", b"data 00\n",
+                   [" 3000", " 2130", " 08000000000000000001 2c00000000", " 64042"]),
+    "air": Side(airmodel, b"set 60\n", b"start-ind 3000", b"start-ind 4080\nreq 3800\nreq 10000000000000004b0000000000\nreq 00\n", b"data 5840\n",
+                [" 3000", " 2130", " 4080", " 3800", " 10000000000000004b0000000000", " 5840", " 20", " 64042"]),
+}
 
 
 def run(data, out=subprocess.PIPE):
-    return subprocess.run(sys.argv[1:], input=data, stdout=out, timeout=120)
+    return subprocess.run(COMMAND, input=data, stdout=out, timeout=120)
 
 
 def words(rng):
     """Lines that are nearly right."""
+    tails = ["", " ", " 0", " 00", " 2130 ", "  2130", " 2130\r", "\t00", "0", " A0", " -1", " 4294967296", *SIDE.tails]
     for _ in range(20000):
-        word = rng.choice(["set", "req", "user-abort", "elapse", "start-cnf", "start-rej", "data", "end-cnf", "peer-abort", "air-abort", "down"])
-        tail = rng.choice(["", " ", " 0", " 00", " 3000", " 2130", " 2130 ", "  2130", " 2130\r", " 08000000000000000001 2c00000000", " 64042", "\t00", "0", " A0", " -1", " 4294967296"])
-        yield (word + tail).encode()
+        yield (rng.choice(list(SIDE.model.WORDS)) + rng.choice(tails)).encode()
 
 
 def check(name, data):
     ran = run(data)
-    good = ran.returncode == 0 and ran.stdout == linkmodel.trace(data)
+    good = ran.returncode == 0 and ran.stdout == SIDE.model.trace(data)
     print(f"{name}: {len(data)} octets, {ran.stdout.count(b'%c' % 10)} lines{'' if good else ': WRONG'}")
     return good
 
@@ -46,12 +54,12 @@ def full():
 
 def broken():
     """A read that fails is no end of the script: its last line is missing, what came of a line is not played, and standard error says so."""
-    data = SET + b"req 3000\nelapse 5"
-    ran = broken_input.run(sys.argv[1:], data)
-    whole = linkmodel.trace(data[:data.rindex(b"\n") + 1])
+    data = SIDE.set + SIDE.opening + b"\nelapse 5"
+    ran = broken_input.run(COMMAND, data)
+    whole = SIDE.model.trace(data[:data.rindex(b"\n") + 1])
     good = ran.stdout == whole[:whole.rindex(b"end ")] and ran.stderr == broken_input.TOLD
-    first = broken_input.run_directory(sys.argv[1:])
-    good = good and first.stdout == b"adsc trace 1\n" and first.stderr == broken_input.TOLD
+    first = broken_input.run_directory(COMMAND)
+    good = good and first.stdout == SIDE.model.trace(b"").removesuffix(b"end 0\n") and first.stderr == broken_input.TOLD
     print(f"input that cannot be read: {'said' if good else 'WRONG'}")
     return good
 
@@ -63,21 +71,24 @@ def main():
     print(f"seed {seed}")
     cases = {
         "empty": b"",
-        "no last LF": SET + b"req 3000",
+        "no last LF": SIDE.set + SIDE.opening,
         "empty lines": b"\n" * 20000,
-        "NUL": SET + b"\0" * 5000 + b"\n" + b"data \0" + b"\nreq 3000\n",
-        "CR LF": SET.replace(b"\n", b"\r\n") + SET + b"req 3000\r\nreq 3000\n",
-        "long lines": SET + b"".join(b"data " + b"0" * n + b"\n" for n in (4091, 4092, 4090, 4093, 70000, 1000000)),
+        "NUL": SIDE.set + b"\0" * 5000 + b"\n" + b"data \0" + b"\n" + SIDE.opening + b"\n",
+        "CR LF": SIDE.set.replace(b"\n", b"\r\n") + SIDE.set + SIDE.opening + b"\r\n" + SIDE.opening + b"\n",
+        "long lines": SIDE.set + b"".join(b"data " + b"0" * n + b"\n" for n in (4091, 4092, 4090, 4093, 70000, 1000000)),
         "random octets": rng.randbytes(2000000),
-        "lines that are nearly right": SET + b"\n".join(words(rng)) + b"\n",
-        "late data": SET + b"req 3000\nstart-cnf 2130\n" + b"data 00\n" * 3000,
+        "lines that are nearly right": SIDE.set + b"\n".join(words(rng)) + b"\n",
+        "data again and again": SIDE.set + SIDE.deep + SIDE.data * 3000,
     }
     good = [check(name, data) for name, data in cases.items()]
-    good.append(counted("a million lines", SET + b"elapse 0\n" * 999999, 1000000))
+    good.append(counted("a million lines", SIDE.set + b"elapse 0\n" * 999999, 1000000))
     good.append(counted("one long line", b"a" * 20000000, 1))
     good.append(full())
     good.append(broken())
     return all(good)
 
 
+if len(sys.argv) < 3 or sys.argv[1] not in SIDES:
+    sys.exit(__doc__)
+SIDE, COMMAND = SIDES[sys.argv[1]], sys.argv[2:]
 sys.exit(0 if main() else 1)

@@ -21,8 +21,8 @@ import sys
 import hostlines
 import hostmodel
 import percoder
+from altering import replaced
 from hostmodel import INTERVALS, LINK_OCTETS, ORDER, RULES, STATES
-from linkmutants import replaced
 from percoder import PRESENCE
 
 REFUSALS = {'write_ground': (5, 6, 10, 15), 'write_air': (5, 6, 10, 12), 'open': (3, 6), 'request': (29, 1, 5, 10, 15, 6), 'elapse': (29, 4, 6),

@@ -27,7 +27,7 @@ CONSTANTS = {
                              "UNITS", "AVOIDANCE", "ADDRESS", "GROUND_PARTS", "TRACK", "GROUND_SPEED", "GROUND_RATE", "AIR_PARTS", "HEADING", "AIR_SPEED", "MACH",
                              "IAS", "AIR_RATE", "WEATHER_PARTS", "WIND_SPEED", "WIND_DIRECTION", "TEMPERATURE", "TURBULENCE")),
         *("G_" + n for n in ("KIND", "WHAT", "SCALE", "INTERVAL", "ADDRESS", "PROFILE", "GROUND_VECTOR", "AIR_VECTOR", "WEATHER")))}, "ADSC_AIR_NUMBERS": "A_NUMBERS"},
-    "ground_answer/src/reasons.rt": {f"ADSC_{name}": name for name in (
+    "pdu/src/reasons.rt": {f"ADSC_{name}": name for name in (
         "PROVIDER_FAILURE", "INVALID_PDU", "SEQUENCE_ERROR", "TIMER_EXPIRY", "NO_CONTACT", "UNDEFINED_ERROR")},
     "pdu_parts/src/elements.rt": {
         **{f"ADSC_HAS_{name}": name for name in ("ADDRESS", "PROFILE", "GROUND_VECTOR", "AIR_VECTOR", "WEATHER")},
@@ -36,16 +36,15 @@ CONSTANTS = {
         "ADSC_URGENT_HAS_ADDRESS": "EMERGENCY_ADDRESS", "ADSC_URGENT_HAS_GROUND_VECTOR": "EMERGENCY_GROUND_VECTOR", "ADSC_ON_WAYPOINT_CHANGE": "WAYPOINT_CHANGE", "ADSC_ON_MERIT_CHANGE": "MERIT_CHANGE"},
     "host_record/src/record.rt": {"ADSC_LINK_OCTETS": "RECORD"},
     "host_record/src/answer.rt": {"ADSC_ANSWER_OCTETS": "ANSWER"},
-    "ground_answer/src/answer.rt": {
-        "ADSC_START_REQUEST": "START_REQUEST", "ADSC_DATA_REQUEST": "DATA_REQUEST", "ADSC_END_REQUEST": "END_REQUEST", "ADSC_ABORT_REQUEST": "ABORT_REQUEST",
-        "ADSC_ABORT_INDICATION": "ABORT_IND", "ADSC_PEER_ABORT": "PEER_ABORT_IND", "ADSC_LATE": "LATE"},
-    "link/src/actions.rt": {"ADSC_INDICATION": "IND", "ADSC_STOP_TIMER": "STOP", "ADSC_START_TIMER": "START"},
-    "link/src/moves.rt": {"ADSC_TIMERS": "TIMERS"},
+    "ground_answer/src/answer.rt": {"ADSC_START_REQUEST": "START_REQUEST", "ADSC_END_REQUEST": "END_REQUEST", "ADSC_LATE": "LATE"},
+    "link/src/actions.rt": {
+        "ADSC_DATA_REQUEST": "DATA_REQUEST", "ADSC_ABORT_REQUEST": "ABORT_REQUEST", "ADSC_INDICATION": "IND", "ADSC_ABORT_INDICATION": "ABORT_IND",
+        "ADSC_PEER_ABORT": "PEER_ABORT_IND", "ADSC_STOP_TIMER": "STOP", "ADSC_START_TIMER": "START"},
+    "link/src/moves.rt": {"ADSC_TIMERS": "TIMERS", **{f"ADSC_{module}_IDLE": "IDLE" for module in ("DC", "EC", "PC", "EM")}},
     "ground_tables/src/intervals.rt": {"ADSC_INTERVAL_MOST": "INTERVAL_MOST"},
     "ground_tables/src/names.rt": {
         **{f"ADSC_LI_{state}": f"LI_{state}" for state in ("IDLE", "START", "ACTIVE", "END")},
         **{f"ADSC_{timer}": timer for timer in ("DC1", "DC2", "EC1", "EC2", "PC1", "PC2", "PC3", "EM1", "EM2")},
-        **{f"ADSC_{module}_IDLE": "IDLE" for module in ("DC", "EC", "PC", "EM")},
         **{f"ADSC_{module}_{state}": state for module in ("EC", "PC") for state in ("START_PENDING", "PENDING", "ACTIVE", "CANCEL")},
         "ADSC_DC_PENDING": "DC_PENDING", "ADSC_DC_ACTIVE": "DC_ACTIVE", "ADSC_EM_ACTIVE": "EM_ACTIVE", "ADSC_EM_MODIFY": "MODIFY"},
 }

@@ -1,8 +1,8 @@
 """A model of the ground side of one link, written from page 01 alone, and its intervals from L2 of 02.
 
-It shares nothing with the box it is compared with but these pages, and reads PDUs with percoder.py.
-First the tables of 01, as data in the page's order with its words above each group, and those of
-L2; below them the model that plays them.
+It shares nothing with the box it is compared with but these pages; it stands on sidemodel.py, and
+reads PDUs with percoder.py. First the tables of 01, as data in the page's order with its words above
+each group, and those of L2; below them the model that plays them.
 
     linkmodel.py < script > trace
     trace(script octets) -> trace octets
@@ -15,17 +15,11 @@ import re
 import sys
 
 import percoder
+import sidemodel
+from sidemodel import AIRCRAFT_PDUS, LIMITS, MODULES, NUMBER, OCTETS, ORDER, aircraft_pdu, asked, ground_pdu, read, settings, steps
 
-MODULES = ('DC', 'EC', 'PC', 'EM')
-
-# Events of the tables: requests are `req/` and the ground PDU, the rest are aircraft PDUs. `+ack` is a
-# report with a positive ack, behind `/` stand the request type, the noncompliance or the contract.
-REQUEST_TYPES = ('event', 'periodic', 'demand', 'cancel-event', 'cancel-periodic', 'modify-emergency', 'cancel-all',
-                 'end-forward')
-REPORTS = ('demand-report', 'emergency', 'event-report', 'periodic-report')
-DOWNLINK = (['cancel-emergency', 'provider-abort'] + list(REPORTS) + [name + '+ack' for name in REPORTS]
-            + ['negative-ack/' + name for name in REQUEST_TYPES] + ['positive-ack/' + name for name in REQUEST_TYPES]
-            + ['noncompliance/' + name for name in ('demand', 'event', 'periodic')])
+# Events of the tables: requests are `req/` and the ground PDU, the rest are aircraft PDUs.
+DOWNLINK = AIRCRAFT_PDUS
 
 # What LI is asked for by `req`; cancel-emergency-ack and provider abort are no request (01, script words).
 REQUESTS = {
@@ -189,17 +183,6 @@ def seconds(unit, number):
     return UNITS[unit] * number
 
 
-# Settings are 1..86,400, an elapse is at most 86,400, a number fits 32 bits, a line has at most 4,096 octets.
-LIMITS = {'least setting': 1, 'setting': 86400, 'elapse': 86400, 'number': 2 ** 32 - 1, 'line': 4096}
-
-# "Order. Calls: 17, 3, 29, 4, 1 or 2, then fields." Each is a function of Box.
-ORDER = ('not_readable', 'bad_setting', 'bad_record', 'long_elapse', 'not_listed')
-
-
-def steps(text):
-    return tuple(text.split(', ')) if text else ()
-
-
 @dataclasses.dataclass(frozen=True)
 class Rules:
     """The tables as they are looked up; a test of a test alters one entry."""
@@ -229,41 +212,12 @@ RULES = Rules()
 
 # PDUs
 
-@functools.lru_cache(maxsize=None)
-def read(family, octets):
-    """The value, or None: a reading's refusal number is never shown."""
-    try:
-        return percoder.read(family, octets)
-    except percoder.Refused:
-        return None
+downlink = aircraft_pdu
 
 
-@functools.lru_cache(maxsize=None)
-def downlink(octets):
-    """The event an aircraft PDU is, or None if it does not read."""
-    value = read('air', octets)
-    if value is None:
-        return None
-    name, content = value
-    if name in REPORTS:
-        return name + '+ack' if 'ack' in content else name
-    if name == 'negative-ack':
-        return f'{name}/{REQUEST_TYPES[content["request"]]}'
-    if name == 'positive-ack':
-        return f'{name}/{REQUEST_TYPES[content]}'
-    if name == 'noncompliance':
-        return f'{name}/{content[0]}'
-    return name
-
-
-@functools.lru_cache(maxsize=None)
 def request(octets):
     """The event a ground PDU is, or None if it does not read."""
-    value = read('ground', octets)
-    if value is None:
-        return None
-    name, content = value
-    return 'req/' + name + ('/' + ('event', 'periodic')[content] if name == 'cancel-contract' else '')
+    return asked(ground_pdu(octets))
 
 
 CANCEL_EMERGENCY_ACK = percoder.write('ground', ('cancel-emergency-ack', None)).hex()
@@ -278,31 +232,18 @@ def provider_abort(reason):
 STEP = re.compile('(start|stop) (...)(?: (if it runs|without an emergency|if PC is ACTIVE))?')
 
 
-class Link:
-    """LI, the modules, the seconds left of the timers that run, the interval asked for and the one in force."""
+class Link(sidemodel.Link):
+    """A link with the interval asked for and the one in force."""
+
+    at_rest = ('IDLE', 'END')
 
     def __init__(self, rules, settings):
-        self.rules = rules
-        self.settings = {timer: setting for (timer, _, _), setting in zip(rules.watch, settings)}
-        self.li = 'IDLE'
-        self.state = dict.fromkeys(MODULES, 'IDLE')
-        self.left = {}
+        super().__init__(rules, settings)
         self.asked = self.force = 0
 
     def emergency(self):
         # "An emergency holds exactly while EM isn't IDLE."
         return self.state['EM'] != 'IDLE'
-
-    def all_idle(self):
-        return set(self.state.values()) == {'IDLE'}
-
-    def row(self, event):
-        """The module that lists an event at its state, and its row."""
-        for module, state in self.state.items():
-            row = self.rules.rows.get((module, state, event))
-            if row is not None:
-                return module, row
-        return None
 
     def enter(self, states):
         """Modules go to states."""
@@ -322,16 +263,7 @@ class Link:
     # Entries of an action list
 
     def loads(self, timer):
-        """The seconds that a start loads: as many as a running timer may have left (29)."""
         return sum(self.settings[timer] if part == 'setting' else getattr(self, part) for part in self.rules.loads[timer])
-
-    def start(self, timer):
-        self.left[timer] = self.loads(timer)
-        return [f'start {timer}']
-
-    def stop(self, timer):
-        self.left.pop(timer, None)
-        return [f'stop {timer}']
 
     def stops(self):
         return [entry for timer, _, _ in self.rules.watch if timer in self.left for entry in self.stop(timer)]
@@ -407,72 +339,36 @@ class Link:
         self.li = 'IDLE'
         return [entry for step in self.rules.abort for entry in self.link_step(step.format(why), b'')]
 
-    # Calls
-
-    def call(self, kind, octets):
-        todo, self.li = self.rules.li[self.li, kind]
-        return [entry for step in todo for entry in self.link_step(step, octets)]
-
-    def elapse(self, seconds):
-        # "if a running timer has n or fewer left (n at least 1), abort 4; else each running one loses n."
-        if any(self.rules.expired(left, seconds) for left in self.left.values()):
-            return self.abort('timer expiry')
-        self.left = {timer: left - seconds for timer, left in self.left.items()}
-        return []
-
-    def watched(self):
-        """The timers that run by the watch table."""
-        now = {f'{module}-{state}' for module, state in self.state.items()}
-        return {timer for timer, states, also in self.rules.watch
-                if not now.isdisjoint(states) and (also is None or also in now)}
-
     def fits(self, interval):
         """Whether PC's state has an interval of its range, or has none and there is none."""
         has = self.state['PC'] in self.rules.interval_states[interval]
         return 1 <= getattr(self, interval) <= self.rules.longest if has else getattr(self, interval) == 0
 
     def good(self):
-        """The record by refusal 29; calls never lead to a bad one."""
-        return (set(self.left) == self.watched()
-                and all(1 <= left <= self.loads(timer) for timer, left in self.left.items())
-                and all(self.fits(interval) for interval in self.rules.interval_states)
-                and (self.li not in ('IDLE', 'END') or self.all_idle()))
+        return super().good() and all(self.fits(interval) for interval in self.rules.interval_states)
 
 
 # The script
 
-# "N has no sign or leading zero and fits 32 bits", so it has at most ten digits.
-NUMBER = '(?:0|[1-9][0-9]{0,9})'
-HEX = '(?:[0-9a-f]{2})+'
 WORDS = {
-    'set': f'(?: {NUMBER}){{9}}',
-    'req': f'(?: {HEX})?',
+    'set': settings(9),
+    'req': OCTETS,
     'user-abort': '',
     'elapse': f' {NUMBER}',
-    'start-cnf': f'(?: {HEX})?',
+    'start-cnf': OCTETS,
     'start-rej': '',
-    'data': f'(?: {HEX})?',
+    'data': OCTETS,
     'end-cnf': '',
     'peer-abort': '',
-    'air-abort': f'(?: {HEX})?',
+    'air-abort': OCTETS,
     'down': '',
 }
-LINE = re.compile('|'.join(word + rest for word, rest in WORDS.items()))
-IS_NUMBER = re.compile(NUMBER)
-IS_HEX = re.compile(HEX)
+LINE = sidemodel.line_of(WORDS)
 
 
-class Call:
-    """A line taken apart, as far as it can be."""
-
+class Call(sidemodel.Call):
     def __init__(self, line):
-        text = line.decode('latin-1')
-        self.size = len(line)
-        self.formed = LINE.fullmatch(text) is not None
-        self.word, *arguments = text.split(' ')
-        counts = self.word in ('set', 'elapse')     # elsewhere digits are octets
-        self.numbers = [int(word) for word in arguments if counts and IS_NUMBER.fullmatch(word)]
-        self.octets = bytes.fromhex(arguments[0]) if arguments and IS_HEX.fullmatch(arguments[0]) else b''
+        super().__init__(line, LINE)
         self.event = request(self.octets) if self.word == 'req' else None
         self.kind = REQUESTS.get(self.event, 'no request') if self.word == 'req' else self.word
 
@@ -482,65 +378,18 @@ def call_of(line):
     return Call(line)
 
 
-class Box:
-    """The link, once there is one, and the answers to lines. Each refusal judges alone: their order is a table."""
+class Box(sidemodel.Box):
+    call_of, words, to_modules = staticmethod(call_of), WORDS, ('contract', 'change')
 
     def __init__(self, rules=RULES, link=Link):
-        self.rules, self.make, self.link = rules, link, None
+        super().__init__(rules, link)
 
-    def not_readable(self, call):
-        # "`req` takes a written ground PDU: one that doesn't read is 17, one that is no request is 1. Lines before a
-        # good `set`, a `set` after it and lines over 4,096 octets are 17."
-        limits = self.rules.limits
-        readable = call.formed and call.size <= limits['line'] and all(n <= limits['number'] for n in call.numbers)
-        placed = (call.word == 'set') == (self.link is None)
-        return 0 if readable and placed and not (call.word == 'req' and call.event is None) else 17
-
-    def bad_setting(self, call):
-        limits = self.rules.limits
-        good = all(limits['least setting'] <= number <= limits['setting'] for number in call.numbers)
-        return 3 if call.word == 'set' and not good else 0
-
-    def bad_record(self, call):
-        return 29 if self.link and not self.link.good() else 0
-
-    def long_elapse(self, call):
-        return 4 if call.word == 'elapse' and any(n > self.rules.limits['elapse'] for n in call.numbers) else 0
-
-    def not_listed(self, call):
-        if self.link is None or call.word not in WORDS or call.word in ('set', 'elapse'):
-            return 0
-        if (self.link.li, call.kind) not in self.rules.li:
-            return 1 if call.word in self.rules.asked else 2
-        return 1 if call.kind in ('contract', 'change') and self.link.row(call.event) is None else 0
-
-    def act(self, call):
-        if call.word == 'set':
-            self.link = self.make(self.rules, call.numbers)
-            return []
-        if call.word == 'elapse':
-            return self.link.elapse(call.numbers[0])
-        return self.link.call(call.kind, call.octets)
-
-    def answer(self, line):
-        call = call_of(line)
-        for judge in self.rules.order:
-            number = getattr(self, judge)(call)
-            if number:
-                return f'refused {number}'
-        return ' '.join(['ok'] + self.act(call))
-
-
-def lines(script):
-    """Octets up to LF; a last line without LF counts, nothing behind the last LF is no line."""
-    parts = script.split(b'\n')
-    return parts if parts[-1] else parts[:-1]
+    def kind_of(self, call):
+        return call.kind
 
 
 def trace(script, rules=RULES, link=Link, made=Box):
-    box, parts = made(rules, link), lines(script)
-    answers = [f'{place} {box.answer(line)}' for place, line in enumerate(parts, 1)]
-    return '\n'.join(['adsc trace 1', *answers, f'end {len(parts)}', '']).encode()
+    return sidemodel.trace('adsc trace 1', made(rules, link), script)
 
 
 if __name__ == '__main__':

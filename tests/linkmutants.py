@@ -8,15 +8,13 @@ they do not judge records (29): a difference has to show in what the box does.
 
 import dataclasses
 import functools
-import operator
 
+from altering import (BLIND, altered_row, altered_steps, clock_mutants, loading, refusal_mutants, replaced, step_name, swapped,
+                      trace_mutants, with_row)
 from linkmodel import (ASKED, DOWNLINK, INTERVAL_STATES, LIMITS, MODULES, ORDER, REASONS, RULES, WORDS, Box, Link, call_of,
                        read, seconds, trace)
 from linkscripts import LI_STATES, STATES
 from percoder import DEFAULTS
-
-BLIND = tuple(judge for judge in ORDER if judge != 'bad_record')
-
 
 def changed(link=Link, made=Box, **fields):
     return functools.partial(trace, rules=dataclasses.replace(RULES, **{'order': BLIND, **fields}), link=link, made=made)
@@ -25,55 +23,14 @@ def changed(link=Link, made=Box, **fields):
 judged = functools.partial(changed, order=ORDER)
 
 
-def without(sequence, place):
-    return sequence[:place] + sequence[place + 1:]
-
-
-def replaced(sequence, place, entry):
-    return sequence[:place] + (entry,) + sequence[place + 1:]
-
-
-def swapped(sequence, place):
-    return sequence[:place] + (sequence[place + 1], sequence[place]) + sequence[place + 2:]
-
-
 # Rows
 
 CONDITIONS = (' if it runs', ' without an emergency', ' if PC is ACTIVE')
 
 
-def step_name(step):
-    return step.replace(' ', '-')
-
-
-def altered_steps(todo):
-    """(name, steps): one left out, two in the other order, one without its condition."""
-    for place, step in enumerate(todo):
-        yield f'no-{step_name(step)}', without(todo, place)
-        if place + 1 < len(todo):
-            yield f'{step_name(todo[place + 1])}-before-{step_name(step)}', swapped(todo, place)
-        for condition in CONDITIONS:
-            if step.endswith(condition):
-                bare = step[:-len(condition)]
-                yield f'always-{step_name(bare)}', replaced(todo, place, bare)
-
-
-def altered_row(row, states):
-    """(name, row), None for a row that is missing."""
-    todo, after = row
-    yield 'drop', None
-    yield from ((name, (steps, after)) for name, steps in altered_steps(todo))
-    yield from ((f'to-{state}', (todo, state)) for state in states if state != after)
-
-
-def with_row(rows, key, row):
-    rows = {**rows, key: row}
-    return rows if row else {known: rows[known] for known in rows if known != key}
-
-
 def row_mutants():
     for key, row in RULES.rows.items():
-        for name, new in altered_row(row, STATES[key[0]]):
+        for name, new in altered_row(row, STATES[key[0]], CONDITIONS):
             yield '.'.join((*key, name)), changed(rows=with_row(RULES.rows, key, new))
 
 
@@ -181,14 +138,6 @@ class ExpiredNotStopped(Link):
         return super().elapse(seconds)
 
 
-class NoTime(Link):
-    def elapse(self, seconds):
-        before = self.left
-        entries = super().elapse(seconds)
-        self.left = self.left if entries else before
-        return entries
-
-
 class FirstLoses(Link):
     """Only the first running timer loses seconds."""
     def elapse(self, seconds):
@@ -209,46 +158,15 @@ class FirstJudged(Link):
         return []
 
 
-class LoadsOnce(Link):
-    """A timer stopped and started again goes on with what was left."""
-    kept = {}
-
-    def stop(self, timer):
-        self.kept = {**self.kept, timer: self.left.get(timer, self.loads(timer))}
-        return super().stop(timer)
-
-    def start(self, timer):
-        entries = super().start(timer)
-        self.left[timer] = self.kept.get(timer, self.left[timer])
-        return entries
-
-
-def loading(timer, more):
-    """A start of one timer loads so many seconds more, but one at least."""
-    class Loads(Link):
-        def loads(self, started):
-            return max(1, super().loads(started) + more(self)) if started == timer else super().loads(started)
-    return Loads
-
-
-class OneSecond(Link):
-    def loads(self, timer):
-        return 1
-
-
-def clock_mutants():
-    yield 'clock.fewer-left', changed(expired=operator.lt)
-    yield 'clock.one-early', changed(expired=lambda left, seconds: left <= seconds + 1)
-    yield 'clock.first-elapse', changed(expired=lambda left, seconds: True)
-    yield 'clock.never', changed(expired=lambda left, seconds: False)
-    for link in (StopsBackwards, ExpiredNotStopped, NoTime, FirstLoses, FirstJudged, LoadsOnce):
+def time_mutants():
+    yield from clock_mutants(changed, Link)
+    for link in (StopsBackwards, ExpiredNotStopped, FirstLoses, FirstJudged):
         yield f'clock.{link.__name__}', changed(link)
-    yield 'load.one-second', changed(OneSecond)
     timers = [timer for timer, _, _ in RULES.watch]
     for timer, other in zip(timers, timers[1:] + timers[:1]):
         yield f'load.{timer}-with-{other}', changed(loading(
-            timer, lambda link, timer=timer, other=other: link.settings[other] - link.settings[timer]))
-        yield f'load.{timer}-one-less', changed(loading(timer, lambda link: -1))
+            Link, timer, lambda link, timer=timer, other=other: link.settings[other] - link.settings[timer]))
+        yield f'load.{timer}-one-less', changed(loading(Link, timer, lambda link: -1))
 
 
 # Intervals (02, L2)
@@ -443,30 +361,7 @@ def interval_record_mutants():
     yield 'interval.JudgedByGrace', judged(JudgedByGrace)
 
 
-# Refusals, lines and the trace
-
-class GivesAll(Link):
-    """Requests that no row lists are taken, and do nothing."""
-    def row(self, event):
-        return super().row(event) or ('DC', ((), self.state['DC']))
-
-
-def refusal_mutants():
-    """Only 17 meets another refusal on one line: 3 is of `set`, 4 of `elapse`, 1 and 2 of the rest, 29 of none."""
-    for judge in ('bad_setting', 'long_elapse', 'not_listed'):
-        rest = tuple(other for other in BLIND if other != judge)
-        yield f'order.{judge.replace("_", "-")}-before-17', changed(order=(judge, *rest))
-    yield 'order.no-bad-setting', changed(order=tuple(judge for judge in BLIND if judge != 'bad_setting'))
-    yield 'order.no-long-elapse', changed(order=tuple(judge for judge in BLIND if judge != 'long_elapse'))
-    yield 'order.no-request-refused', changed(GivesAll)
-    for word in WORDS:
-        if word not in ('set', 'elapse'):
-            asked = set(ASKED) ^ {word}
-            yield f'refusal.{word}-{"1-for-2" if word in asked else "2-for-1"}', changed(asked=tuple(asked))
-    for name, most in LIMITS.items():
-        yield f'limit.{name.replace(" ", "-")}-one-less', changed(limits={**LIMITS, name: most - 1})
-        yield f'limit.{name.replace(" ", "-")}-one-more', changed(limits={**LIMITS, name: most + 1})
-
+# The end request and indications
 
 class EndFirst(Link):
     """The end request before the last entry."""
@@ -494,18 +389,10 @@ class BareInd(Link):
 def other_mutants():
     for link in (EndFirst, EndTwice, EndAfterAbort, BareInd):
         yield f'link.{link.__name__}', changed(link)
-    yield 'trace.last-line-needs-LF', lambda script: trace(script[:script.rfind(b'\n') + 1])
-    yield 'trace.line-after-last-LF', lambda script: trace(script + b'\n' if script.endswith(b'\n') else script)
-    yield 'trace.CR-left-out', lambda script: trace(script.replace(b'\r\n', b'\n'))
-    yield 'trace.end-counts-accepted', recounted
+    yield from refusal_mutants(changed, Link, WORDS, ASKED)
+    yield from trace_mutants(trace)
 
 
-def recounted(script):
-    """The last line tells the calls that were accepted."""
-    *most, _, _ = trace(script).split(b'\n')
-    return b'\n'.join([*most, b'end %d' % sum(b' ok' in line for line in most), b''])
-
-
-FAMILIES = (row_mutants, added_mutants, li_mutants, abort_mutants, watch_mutants, clock_mutants, interval_row_mutants,
-            interval_idle_mutants, interval_load_mutants, interval_record_mutants, refusal_mutants, other_mutants)
+FAMILIES = (row_mutants, added_mutants, li_mutants, abort_mutants, watch_mutants, time_mutants, interval_row_mutants,
+            interval_idle_mutants, interval_load_mutants, interval_record_mutants, other_mutants)
 MUTANTS = dict(mutant for family in FAMILIES for mutant in family())

@@ -7,14 +7,15 @@
 import collections
 import functools
 
-from compare_coder import DAMAGES, random_value
-from linkmodel import DOWNLINK, LIMITS, REQUESTS, RULES, Box, call_of, downlink, request, seconds
+import scriptmaking
+from compare_coder import random_value
+from linkmodel import DOWNLINK, REQUESTS, RULES, Box, call_of, downlink, request, seconds
 from percoder import DEFAULTS, write
+from scriptmaking import BEFORE, MOST, elapse_kind, no_call, set_kind
 
 LI_STATES = ('IDLE', 'START', 'ACTIVE', 'END')
 EVENTS = [*REQUESTS, *DOWNLINK, 'unreadable']
 ENDING = {'START': EVENTS[len(REQUESTS):], 'ACTIVE': ['req/cancel-all', *EVENTS[len(REQUESTS):]]}
-MOST = LIMITS['elapse']
 
 CONTRACT_STATES = ('IDLE', 'START-PENDING', 'ACTIVE', 'PENDING', 'CANCEL')
 STATES = {'DC': ('IDLE', 'PENDING', 'ACTIVE'), 'EC': CONTRACT_STATES, 'PC': CONTRACT_STATES,
@@ -49,7 +50,6 @@ KINDS = ['set in range', 'set out of range', 'req contract', 'req change', 'req 
          'req unreadable', 'user-abort', 'elapse 0', 'elapse runs on', 'elapse expires', 'elapse over',
          'start-cnf reads', 'start-cnf unreadable', 'start-rej', 'data reads', 'data unreadable', 'end-cnf',
          'peer-abort', 'air-abort provider abort', 'air-abort other', 'air-abort unreadable', 'down', 'no call']
-BEFORE = 'no link'
 
 # Where modules stand in LI START.
 FIRST = [(module, 'IDLE') for module in STATES] + [('DC', 'PENDING'), ('EC', 'START-PENDING'), ('PC', 'START-PENDING')]
@@ -92,18 +92,12 @@ def event_of(link, call):
     return None
 
 
-def elapse_kind(link, seconds):
-    if seconds == 0 or seconds > MOST:
-        return 'elapse over' if seconds else 'elapse 0'
-    return 'elapse expires' if link and any(left <= seconds for left in link.left.values()) else 'elapse runs on'
-
-
 def kind_of(link, call):
     """The kind of a line, one of KINDS."""
-    if not call.formed or call.size > LIMITS['line'] or any(number > LIMITS['number'] for number in call.numbers):
+    if no_call(call):
         return 'no call'
     if call.word == 'set':
-        return 'set in range' if all(1 <= number <= LIMITS['setting'] for number in call.numbers) else 'set out of range'
+        return set_kind(call)
     if call.word == 'req':
         return f'req {call.kind}' if call.event else 'req unreadable'
     if call.word == 'elapse':
@@ -130,8 +124,8 @@ class Coverage:
         self.ends = collections.Counter()       # (one of ENDS, edge)
         self.started = None                     # the row that started PC2 last
 
-    def note(self, link, line):
-        call = call_of(line)
+    def note(self, box, line):
+        link, call = box.link, call_of(line)
         kind = kind_of(link, call)
         self.lines[link.li if link else BEFORE, kind] += 1
         self.joints['END'] += link is not None and link.li == 'END'
@@ -191,32 +185,16 @@ def lines_due():
             if not any(holds(li, kind) for _, holds in UNREACHABLE_LINES)]
 
 
-class Pool:
-    """PDUs of every event, and octets that are none."""
-    EACH = 12
+class Pool(scriptmaking.Pool):
+    """With periodic contracts of the intervals that every run agrees to."""
 
     def __init__(self, rng):
-        self.of = collections.defaultdict(list)
-        for family, name_of, events in (('air', downlink, DOWNLINK), ('ground', request, REQUESTS)):
-            while any(len(self.of[event]) < self.EACH for event in events):
-                octets = write(family, random_value(rng, family))
-                if len(self.of[name_of(octets)]) < self.EACH:
-                    self.of[name_of(octets)].append(octets)
+        super().__init__(rng, (('air', downlink, DOWNLINK), ('ground', request, REQUESTS)))
         intervals = [*INTERVALS, ('seconds', rng.randint(2, 58)), ('minutes', rng.randint(2, 119))]
         self.of['req/periodic-contract'] += [self.periodic(rng, interval) for interval in intervals for _ in range(4)]
-        self.bad = {family: self.unreadable(rng, family, name_of)
-                    for family, name_of in (('air', downlink), ('ground', request))}
 
     def periodic(self, rng, interval):
         return write('ground', ('periodic-contract', {**random_value(rng, 'periodic-contract'), 'interval': interval}))
-
-    def unreadable(self, rng, family, name_of):
-        found = [b'', bytes(129), b'\x80', b'\x99' * 5, write('air', ('cancel-emergency', None)) + b'\0']
-        while len(found) < 100:
-            drawn, octets = rng.choice(DAMAGES)(rng, family)
-            if drawn == family and name_of(octets) is None:
-                found.append(octets)
-        return found
 
 
 @functools.lru_cache(maxsize=None)
@@ -237,25 +215,19 @@ def lists(link, kind):
     return (link.li, detail if word == 'req' else word) in RULES.li
 
 
-class Maker:
-    """Makes scripts one after another; what is rarely met is tried more."""
+class Maker(scriptmaking.Maker):
+    """What is rarely met is tried more."""
+
+    kinds, count, hex_words = KINDS, 9, ('req', 'start-cnf', 'data', 'air-abort')
+    elsewhere = ('air ', 'end', 'start-req ', 'start-ind ', 'ground-abort ')
 
     def __init__(self, rng, coverage):
-        self.rng, self.coverage, self.pool = rng, coverage, Pool(rng)
+        super().__init__(rng, coverage, Pool(rng))
 
-    def script(self, size):
-        rng, made = self.rng, []
+    def begin(self):
         self.box = Box()
-        self.rough = rng.choice((0.05, 0.1, 0.25))  # how often a line may end the link
-        self.story = [] if rng.random() < 0.15 else None    # what comes next, where PC2 is watched to its end
-        if rng.random() < 0.02:
-            size = rng.randint(0, 3)
-        for _ in range(size):
-            line = self.line()
-            self.coverage.note(self.box.link, line)
-            self.box.answer(line)
-            made.append(line)
-        return b'\n'.join(made) + (b'\n' if made and rng.random() < 0.9 else b'')
+        self.rough = self.rng.choice((0.05, 0.1, 0.25))         # how often a line may end the link
+        self.story = [] if self.rng.random() < 0.15 else None   # what comes next, where PC2 is watched to its end
 
     def line(self):
         link, draw = self.box.link, self.rng.random()
@@ -274,15 +246,6 @@ class Maker:
         if draw < 0.88:
             return self.clock(link)
         return self.of_kind(self.rarest_kind(link.li, [kind for kind in KINDS if not lists(link, kind)]))
-
-    # Before there is a link
-
-    def opening(self, draw):
-        if draw < 0.65:
-            return self.of_kind('set in range')
-        if draw < 0.8:
-            return self.of_kind('set out of range')
-        return self.of_kind(self.rarest_kind(BEFORE, KINDS))
 
     def settings(self):
         high = self.rng.choice((3, 6, 12, 12, 60, 60, MOST))
@@ -363,11 +326,6 @@ class Maker:
             return b'elapse %d' % self.near(link)
         return self.of_kind(self.rarest_kind(link.li, [kind for kind in KINDS if lists(link, kind)]))
 
-    def clock(self, link):
-        """Time that no timer ends by."""
-        most = min([MOST, *(left - 1 for left in link.left.values())])
-        return b'elapse %d' % self.rng.choice((most, self.rng.randint(0, most), self.rng.randint(0, most), min(1, most), 0))
-
     def near(self, link):
         """Time about the end of the timer that ends first, or of any."""
         if self.rng.random() < 0.5:
@@ -381,10 +339,6 @@ class Maker:
     def rarest(self, events, link):
         return min(events, key=lambda event: (*self.coverage.rarity(link, event), self.rng.random()))
 
-    def rarest_kind(self, li, kinds):
-        """The kind of line met least in an LI state; an expiry needs a timer and is not drawn here."""
-        return min(kinds, key=lambda kind: (kind == 'elapse expires', self.coverage.lines[li, kind], self.rng.random()))
-
     # Lines
 
     def of_event(self, link, event):
@@ -393,79 +347,14 @@ class Maker:
         octets = self.rng.choice(self.pool.bad['air'] if event == 'unreadable' else self.pool.of[event])
         return self.hexed('start-cnf' if link.li == 'START' else 'data', octets)
 
-    def hexed(self, word, octets):
-        return f'{word} {octets.hex()}'.rstrip().encode()
-
-    def of_kind(self, kind):
-        word, _, detail = kind.partition(' ')
-        if kind == 'no call':
-            return self.no_call()
-        if word == 'set':
-            return self.set_line(detail)
-        if word == 'elapse':
-            return b'elapse %d' % self.seconds(detail)
-        if not detail:
-            return word.encode()
-        return self.hexed(word, self.octets(word, detail))
-
     def octets(self, word, detail):
         rng, of, bad = self.rng, self.pool.of, self.pool.bad
         if detail == 'unreadable':
             if word in ('start-cnf', 'air-abort') and rng.random() < 0.05:
-                return rng.randbytes((LIMITS['line'] - len(word) - 1) // 2)     # the longest readable line
+                return rng.randbytes(self.longest(word))
             return rng.choice(bad['ground' if word == 'req' else 'air'])
         if word == 'req':
             return rng.choice(of[rng.choice([event for event, kind in REQUESTS.items() if kind == detail])])
         if detail == 'provider abort':
             return rng.choice(of['provider-abort'])
         return rng.choice(of[rng.choice([event for event in DOWNLINK if detail == 'reads' or event != 'provider-abort'])])
-
-    def seconds(self, detail):
-        link = self.box.link
-        if detail == 'over':
-            return self.rng.choice((MOST + 1, MOST + 1, LIMITS['number'], self.rng.randint(MOST + 1, LIMITS['number'])))
-        if detail == '0':
-            return 0
-        return self.near(link) if link and link.left else self.rng.choice((1, MOST, self.rng.randint(1, MOST)))
-
-    def set_line(self, detail):
-        numbers = self.settings()
-        if detail == 'out of range':
-            for place in self.rng.sample(range(9), self.rng.choice((1, 1, 1, 9))):
-                numbers[place] = self.rng.choice((0, MOST + 1, MOST + 1, LIMITS['number']))
-        return ' '.join(['set', *map(str, numbers)]).encode()
-
-    def no_call(self):
-        """A line that is none: most are a good one with one thing wrong."""
-        return self.rng.choice((self.bad_set, self.bad_elapse, self.bad_line, self.bad_line, self.bad_octets,
-                                self.too_long))()
-
-    def bad_set(self):
-        numbers = self.set_line(self.rng.choice(('in range', 'out of range'))).split()[1:]
-        place = self.rng.randrange(9)
-        odd = self.rng.choice((b'00', b'-1', b'+1', b'01', b'4294967296', b'1.0', b'x', b''))
-        return b' '.join([b'set', *self.rng.choice((
-            numbers[:8], numbers + [b'1'], numbers + [b'0'], [], numbers[:place] + [odd] + numbers[place + 1:]))])
-
-    def bad_elapse(self):
-        beyond = b' %d' % (LIMITS['number'] + 1)
-        return b'elapse' + self.rng.choice((
-            b'', b' ', b' 00', b' 01', b' -0', b' -1', b' +1', b' 1 ', b' 1 1', b'  1', b' 0x1', b' 1a', beyond, beyond,
-            beyond, beyond, b' 18446744073709551616', b' ' + b'9' * 5000, b'1', b'\t1', b' 1\r', b' \xb2'))
-
-    def bad_line(self):
-        line = self.of_kind(self.rng.choice([kind for kind in KINDS if kind.split()[0] not in ('set', 'elapse', 'no')]))
-        word, _, digits = line.partition(b' ')
-        return self.rng.choice((
-            b'', b' ', line + b' ', line + b'\r', line + b'\r', line + b'\t', line + b'\0', line + b'\xff', b' ' + line,
-            line + b' 00', word.upper(), word.title() + line[len(word):], word[:-1], word + b'x', word + b'  ' + (digits or b'00'),
-            word + b'\t' + (digits or b'00'), b'air ' + digits, b'end', b'start-req ' + digits, digits + b'g',
-            line.replace(b' ', b''), word + b' 0x00'))
-
-    def bad_octets(self):
-        word = self.rng.choice((b'req', b'start-cnf', b'data', b'air-abort'))
-        return word + b' ' + self.rng.choice((b'', b'0', b'000', b'3B80', b'0g', b'00 00', b'0', b'\xd9\xa0', b'3b8', b'74 '))
-
-    def too_long(self):
-        word = self.rng.choice(('req', 'start-cnf', 'data', 'data', 'air-abort'))
-        return self.hexed(word, bytes((LIMITS['line'] - len(word) - 1) // 2 + self.rng.choice((1, 1, 1, 1000))))

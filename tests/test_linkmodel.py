@@ -1,27 +1,9 @@
 """Checks of linkmodel.py against page 01 and L2 of 02: the page's example, and traces and records worked out by hand."""
 
-import sys
-
+from byhand import Checks
 from linkmodel import RULES, Link, trace
-from percoder import write
 
-ZERO = {'sign': 0, 'degrees': 0, 'minutes': 0, 'tenths': 0}
-REPORT = {'position': {'latitude': ZERO, 'longitude': ZERO, 'level': 0},
-          'time': {'date': {'year': 1996, 'month': 1, 'day': 1}, 'clock': {'hours': 0, 'minutes': 0}},
-          'merit': {'accuracy': 0, 'first': 0, 'second': 0}}
-
-
-def report(name, **more):
-    return write('air', (name, {'report': REPORT, **more})).hex()
-
-
-# Short names in the scripts below: a report, and `+` for one with a positive ack.
-PDUS = {
-    'DEM': report('demand-report'), 'DEM+': report('demand-report', ack=None),
-    'EVT': report('event-report', **{'event-type': 0}), 'EVT+': report('event-report', ack=None, **{'event-type': 0}),
-    'PER': report('periodic-report'), 'PER+': report('periodic-report', ack=None),
-    'EMG': report('emergency'), 'EMG+': report('emergency', ack=None),
-}
+CHECKS = Checks('linkmodel', trace)
 SET = 'set 10 20 30 40 50 60 70 80 90'
 
 # what: calls after SET, each with the answer due
@@ -239,26 +221,6 @@ LINES = [
     ('air-abort ' + '00' * 2043, 2), ('air-abort ' + '00' * 2044, 17), ('data ' + '00' * 2045, 2), ('data ' + '00' * 2046, 17),
 ]
 
-checks = failures = 0
-
-
-def check(what, got, wanted):
-    global checks, failures
-    checks += 1
-    if got != wanted:
-        failures += 1
-        print(f'{what}: got {got!r}, wanted {wanted!r}')
-
-
-def spelled(text):
-    return ' '.join(PDUS.get(word, word) for word in text.split())
-
-
-def answers(lines):
-    """The answers without their numbers."""
-    script = '\n'.join(lines).encode('latin-1') + b'\n'
-    return [line.split(' ', 1)[1] for line in trace(script).decode().split('\n')[1:-2]]
-
 
 def record(pc, asked, force, left, emergency):
     """A link with its other timers fresh."""
@@ -270,18 +232,9 @@ def record(pc, asked, force, left, emergency):
     return link
 
 
-for what, (script, wanted) in WHOLE.items():
-    check(what, trace(script), wanted)
-for what, text in CASES.items():
-    steps = [[spelled(part) for part in line.split('|')] for line in text.strip().split('\n')]
-    for (call, wanted), got in zip(steps, answers([SET] + [call for call, _ in steps])[1:]):
-        check(f'{what}, {call}', got, wanted)
-for (line, number), got in zip(LINES, answers([line for line, _ in LINES])):
-    check(ascii(line[:60]), got, f'refused {number}' if number else 'ok')
+CHECKS.wholes(WHOLE)
+CHECKS.cases(CASES, SET)
+CHECKS.lines(LINES)
 for *numbers, wanted in RECORDS:
-    check(f'record {numbers}', record(*numbers).good(), wanted)
-
-if failures:
-    print(f'linkmodel: {failures} of {checks} checks failed')
-    sys.exit(1)
-print(f'linkmodel: {checks} checks passed')
+    CHECKS.check(f'record {numbers}', record(*numbers).good(), wanted)
+CHECKS.end()

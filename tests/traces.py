@@ -1,18 +1,20 @@
-"""traces.py PROGRAM [ARGS..]: plays every stored script; the program and the model of the link have to give its trace, octet for octet.
+"""traces.py ground|air PROGRAM [ARGS..]: plays every stored script of a side of the link; the program and the side's model have to give its trace, octet for octet.
 
-The traces are worked out from 01 and 02 by hand: so neither the program nor the model is the measure of the other.
+The traces are worked out from 01, 02 and, for the air, 002 by hand: so neither the program nor the model is the measure of the other.
 """
 import itertools
 import pathlib
 import subprocess
 import sys
 
+import airmodel
 import linkmodel
 
 ROOT = pathlib.Path(__file__).resolve().parent.parent
-PLACES = [ROOT / "tests/traces", ROOT / "examples"]
-# rt plays this pair too, but asks the program alone.
-PAIRS = [(ROOT / "crates/adsc/stdin", ROOT / "crates/adsc/stdout")]
+MODELS = {"ground": linkmodel, "air": airmodel}
+PLACES = {"ground": [ROOT / "tests/traces", ROOT / "examples"], "air": [ROOT / "tests/traces/air", ROOT / "examples/air"]}
+# rt plays these pairs too, but asks the program alone.
+PAIRS = {"ground": [(ROOT / "crates/adsc/stdin", ROOT / "crates/adsc/stdout")], "air": [(ROOT / "crates/adsair/stdin", ROOT / "crates/adsair/stdout")]}
 
 
 def pairs_in(place):
@@ -21,8 +23,13 @@ def pairs_in(place):
     return [(name.with_name(name.name + ".script"), name.with_name(name.name + ".trace")) for name in names]
 
 
-def play(script):
-    run = subprocess.run(sys.argv[1:], input=script, stdout=subprocess.PIPE, timeout=60)
+def stored(side):
+    """The scripts of a side."""
+    return [script.read_bytes() for place in PLACES[side] for script, _ in pairs_in(place)]
+
+
+def play(command, script):
+    run = subprocess.run(command, input=script, stdout=subprocess.PIPE, timeout=60)
     return run.stdout if run.returncode == 0 else run.stdout + b"exit status %d" % run.returncode
 
 
@@ -37,14 +44,14 @@ def shown(line):
     return text if len(text) <= 200 else text[:200] + ".."
 
 
-def judge(script, trace):
+def judge(side, command, script, trace):
     """Whether a pair holds; prints where it first does not."""
     if not (script.is_file() and trace.is_file()):
         print(f"{script.relative_to(ROOT)}, {trace.name}: one of the two is missing")
         return False
     calls, due = script.read_bytes(), trace.read_bytes()
     good = True
-    for who, got in (("the program", play(calls)), ("the model", linkmodel.trace(calls))):
+    for who, got in (("the program", play(command, calls)), ("the model", MODELS[side].trace(calls))):
         if got != due:
             place, expected, came = difference(due, got)
             print(f"{trace.relative_to(ROOT)}, line {place}: expected: {shown(expected)}: {who} has: {shown(came)}")
@@ -52,16 +59,17 @@ def judge(script, trace):
     return good
 
 
-def main():
-    found = {place: pairs_in(place) for place in PLACES}
+def main(side, command):
+    found = {place: pairs_in(place) for place in PLACES[side]}
     for place in found:
         if not found[place]:
             print(f"{place.relative_to(ROOT)}: no pair")
-    results = [judge(*pair) for pair in [*itertools.chain(*found.values()), *PAIRS]]
+    results = [judge(side, command, *pair) for pair in [*itertools.chain(*found.values()), *PAIRS[side]]]
     print(f"traces {len(results)}, differences {results.count(False)}")
     return all(found.values()) and all(results)
 
 
-if len(sys.argv) < 2:
-    sys.exit(__doc__)
-sys.exit(0 if main() else 1)
+if __name__ == "__main__":
+    if len(sys.argv) < 3 or sys.argv[1] not in MODELS:
+        sys.exit(__doc__)
+    sys.exit(0 if main(sys.argv[1], sys.argv[2:]) else 1)

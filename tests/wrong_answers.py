@@ -92,7 +92,7 @@ def judge(root):
 
 
 # What a user or a host calls: the whole of these crates, and the root of `pdu`.
-CALLED = {"adschost", "bench", "ground", "ground_lent", "pdu_reader"}
+CALLED = {"adschost", "air", "air_bench", "bench", "ground", "ground_lent", "pdu_reader"}
 FUNCTION_HEAD = re.compile(r'^( *)pub (?:extern "C" )?fn (\w+)')
 
 

@@ -1,4 +1,0 @@
-pub mod Ways
-pub mod Steps
-pub mod Whole
-pub mod Playing

@@ -2,32 +2,27 @@
 use crate::trace::Trace;
 use crate::trace::begin;
 use crate::trace::number_line;
-use crate::trace::put_end;
-use text_lines::input::Ended;
+use script::room::page_room;
+use script::trace::close;
 use text_lines::input::finish;
 use text_lines::input::pull_line;
 use text_lines::input::shown;
 use text_lines::input::start;
-ghost use mathlib.Core.Path.{_≡_};
 ghost use mathlib.Core.Bool.{true};
 ghost use mathlib.Core.List.{[]};
 ghost use Prim.Native.Nat.{_+_, _≤_};
 ghost use lib.ListN.{length};
 ghost use Rattle.text_lines.specs.Pulls.{left};
-ghost use Rattle.bench.specs.Trace.{bumped, numbered, Stands};
-ghost use Rattle.bench.specs.Playing.{Plays};
-
-// Twice what a full page has: room for the answer to any line.
-fn page_buffer() -> [u8; 131072]
-    ensures { λ r. ⌜ 131072 ≡ length r ⌝ }
-{
-    [0; 131072]
-}
+ghost use Rattle.text.specs.Page.{page};
+ghost use Rattle.script.specs.Trace.{bumped, Stands};
+ghost use Rattle.script.specs.Playing.{Plays};
+ghost use Rattle.bench.specs.Replies.{groundBench};
+ghost use Rattle.bench.specs.Trace.{numbered};
 
 // A line answered on a page that has room: what stood there stays, and the whole answer stands behind it.
 fn add_line(t: Trace, line: &[u8], out: &mut [u8]) -> Trace
     requires { ⌜ t .at + 34100 ≤ length (now out) ⌝ }
-    ensures { λ r. ⌜ Stands (t .at) (now (out .entry)) (bumped (t .number)) (numbered (bumped (t .number)) (t .setup) (now (line .entry))) r (now (out .exit)) ⌝ }
+    ensures { λ r. ⌜ Stands (page (now (out .entry)) (t .at)) (bumped (t .number)) (numbered (bumped (t .number)) (t .setup) (now (line .entry))) (r .number) (r .setup) (page (now (out .exit)) (r .at)) ⌝ }
 {
     number_line(t, line, out)
 }
@@ -41,7 +36,7 @@ pub struct Played {
 // Answers every line of the input. A proved loop has to end, so it counts down from a number that no run uses up.
 fn run(t: Trace, chunk: &mut [u8], line: &mut [u8], out: &mut [u8]) -> Played
     requires { ⌜ 131072 ≤ length (now out) ⌝ }
-    ensures { λ r. ⌜ Plays (length (now (line .entry))) (left true []) (t .number) (t .setup) r ⌝ }
+    ensures { λ r. ⌜ Plays groundBench (length (now (line .entry))) (left true []) (t .number) (t .setup) (r .trace .number) (r .trace .setup) (r .failed) ⌝ }
 {
     let mut e = t;
     let mut input = start();
@@ -66,27 +61,14 @@ fn run(t: Trace, chunk: &mut [u8], line: &mut [u8], out: &mut [u8]) -> Played
     }
 }
 
-// The last line of the trace, which stands there only if the script was read to its end.
-fn close(p: Played, out: &mut [u8]) {
-    let t = p.trace;
-    let mut e = Ended {
-        at: t.at,
-        failed: p.failed,
-    };
-    if p.failed {
-        finish(e, out);
-        return;
-    }
-    e.at = put_end(out, t.at, t.number);
-    finish(e, out);
-}
-
 // Plays the whole script.
 pub fn play() {
     let mut chunk = io::large_buffer();
     let mut line = [0u8; 4097];
-    let mut out = page_buffer();
+    let mut out = page_room();
     let t = begin(&mut out);
     let p = run(t, &mut chunk, &mut line, &mut out);
-    close(p, &mut out);
+    let last = p.trace;
+    let e = close(&mut out, last.at, last.number, p.failed);
+    finish(e, &out);
 }

@@ -3,8 +3,6 @@ use bench_line::answer::put_answer;
 use bench_line::line::LineCall;
 use bench_line::line::parse_line;
 use bench_line::settings::parse_settings;
-use bench_line::words::SET;
-use bench_line::words::word_of;
 use ground::call::Call;
 use ground::call::answer;
 use ground_answer::answer::Answer;
@@ -12,17 +10,17 @@ use ground_answer::fresh::open;
 use ground_answer::record::Link;
 use ground_lent::elapse_lent;
 use refusals::SCRIPT_LINE;
+use script::line::set_part;
+use script::room::line_room;
 use text::least;
 use text::put_text;
-use text::word_end;
 use text::words::put_refused;
 ghost use mathlib.Core.Path.{_≡_};
-ghost use Prim.Native.Nat.{_≤_};
-ghost use lib.ListN.{length};
 ghost use Rattle.ground.specs.Runs.{answered};
 ghost use Rattle.text.specs.Page.{page};
 ghost use Rattle.bench_line.specs.Lines.{parsedLine};
-ghost use Rattle.bench.specs.Replies.{refusedReply, playReply, setReply, lineReply, Replies};
+ghost use Rattle.script.specs.Replies.{refusedReply, playReply, Replies};
+ghost use Rattle.bench.specs.Replies.{groundBench, settingsReply, lineReply};
 
 // The box at the bench: `ready` once it has its settings, and its link from then on.
 pub struct Setup {
@@ -43,13 +41,6 @@ fn refuse_line(b: Setup, n: u8, out: &mut [u8], at: usize) -> Replied
     Replied { setup: b, at: a }
 }
 
-// Room for the octets of the longest line. Only its length is stated: its octets are written before they are read.
-fn blank() -> [u8; 2048]
-    ensures { λ r. ⌜ 2048 ≡ length r ⌝ }
-{
-    [0; 2048]
-}
-
 // Every call, with the clock worked on a lent record.
 fn answer_lent(l: Link, call: Call, octets: &[u8]) -> Answer
     ensures { λ r. ⌜ r ≡ answered l call (now (octets .entry)) ⌝ }
@@ -61,31 +52,32 @@ fn answer_lent(l: Link, call: Call, octets: &[u8]) -> Answer
 }
 
 // A line for a box that has its settings.
-fn play(link: Link, line: &[u8], out: &mut [u8], at: usize) -> Replied
-    ensures { λ r. ⌜ Replies (playReply link (parsedLine (now (line .entry)))) (page (now (out .entry)) at) (r .setup) (page (now (out .exit)) (r .at)) ⌝ }
+fn play(b: Setup, line: &[u8], out: &mut [u8], at: usize) -> Replied
+    ensures { λ r. ⌜ Replies (playReply groundBench b (parsedLine (now (line .entry)))) (page (now (out .entry)) at) (r .setup) (page (now (out .exit)) (r .at)) ⌝ }
 {
-    let mut octets = blank();
+    let mut octets = line_room();
     let told = parse_line(line, &mut octets);
     let LineCall::Makes(call, n) = told else {
-        return refuse_line(Setup { ready: true, link }, SCRIPT_LINE, out, at);
+        return refuse_line(b, SCRIPT_LINE, out, at);
     };
+    let link = b.link;
     let m = least(n, 2048);
     let a = answer_lent(link, call, &octets[..m]);
     let next = a.link;
     let said = a.said;
-    let b = put_answer(out, at, said, &octets[..m]);
+    let e = put_answer(out, at, said, &octets[..m]);
     Replied {
         setup: Setup {
             ready: true,
             link: next,
         },
-        at: b,
+        at: e,
     }
 }
 
 // A line with the settings, for a box that has none.
 fn set_line(b: Setup, tail: &[u8], out: &mut [u8], at: usize) -> Replied
-    ensures { λ r. ⌜ Replies (setReply b (now (tail .entry))) (page (now (out .entry)) at) (r .setup) (page (now (out .exit)) (r .at)) ⌝ }
+    ensures { λ r. ⌜ Replies (settingsReply b (now (tail .entry))) (page (now (out .entry)) at) (r .setup) (page (now (out .exit)) (r .at)) ⌝ }
 {
     let set = parse_settings(tail);
     let good = set.good;
@@ -110,17 +102,13 @@ fn set_line(b: Setup, tail: &[u8], out: &mut [u8], at: usize) -> Replied
 pub fn answer_line(b: Setup, line: &[u8], out: &mut [u8], at: usize) -> Replied
     ensures { λ r. ⌜ Replies (lineReply b (now (line .entry))) (page (now (out .entry)) at) (r .setup) (page (now (out .exit)) (r .at)) ⌝ }
 {
-    let link = b.link;
     if b.ready {
-        return play(link, line, out, at);
+        return play(b, line, out, at);
     }
-    if 4096 < line.len() {
-        return refuse_line(b, SCRIPT_LINE, out, at);
-    }
-    let e = word_end(line);
-    let w = word_of(&line[..e]);
-    if w == SET {
-        return set_line(b, &line[e..], out, at);
+    let s = set_part(line);
+    let from = s.from;
+    if s.found {
+        return set_line(b, &line[from..], out, at);
     }
     refuse_line(b, SCRIPT_LINE, out, at)
 }

@@ -1,5 +1,2 @@
-pub mod AnswerTexts
-pub mod Short
-pub mod Tables
-pub mod LineCalls
+pub mod Requests
 pub mod SettingsLaws

@@ -2,4 +2,3 @@
 pub mod answer;
 pub mod line;
 pub mod settings;
-pub mod words;

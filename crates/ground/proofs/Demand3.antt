@@ -6,35 +6,36 @@ use Prim.Native.Nat.{ℕ, _+_, _<_, _≤_}
 use native.Mathlib.Omega.{arith}
 use lib.Dec.{T, eqb, lit≤, lit<}
 use lib.ListN.{length, getD, set, length-append}
-use lib.Seq.{getD-set-same, getD-set-other}
+use lib.Seq.{getD-set-other}
 use borrow.Author.Tests.{eq-eqb, eqb-true, eqb-false, le-leb}
 use Rattle.link.specs.Tests.{both, either, below}
-use Rattle.link.specs.Names.{timers, EC, PC, LI}
-use Rattle.link.specs.Watch.{runs, settingOk}
+use Rattle.link.specs.Names.{timers, EC, PC, LI, DATA-REQUEST}
+use Rattle.link.specs.Watch.{runs, settingOk, idle, liIs}
 use Rattle.link.specs.Acts.{acts, pushedAll}
 use Rattle.link.specs.Clock.{notDue}
 use Rattle.link.specs.Step.{actsOf, performed, begun, added, stopped, restAt}
 use Rattle.link.specs.declared.moves.Move.{Move}
 use Rattle.link.proofs.Laws.{both-left, both-right, both-T, eq-T, T-eq}
+use Rattle.link.specs.Moves.{liTo}
 use Rattle.sides.specs.Tables.{balanced}
 use Rattle.sides.specs.Runs.{View, Sound, Part, stepped, steps, saidOf, Loads, Fit, Fits, rested, Does, waits, plays, stops, after, total, Untouched, Watched}
 use Rattle.sides.specs.Runs as runs-of
 use Rattle.sides.proofs.Fits.{OwnsFit, own-moves-fit}
 use Rattle.sides.proofs.Keeps.{good-states, stepped-sound, rested-sound}
 use Rattle.sides.proofs.Stops.{short}
-use Rattle.sides.proofs.Ways.{played-said, first-fit, first-sound, second-goes, second-fit}
+use Rattle.sides.proofs.Ways.{played-said, li-set, li-silent, went-room, first-fit, first-sound, second-goes, second-fit}
 use Rattle.sides.proofs.Demand3 as sides
 use Rattle.sides.proofs.Demand3.{Lawful}
 use Rattle.ground_tables.specs.Names.{ACTIVE, EC1, EC2, LI-IDLE, LI-START, LI-ACTIVE, LI-END}
-use Rattle.ground_tables.specs.Moves.{liTo, liEnd, liOver}
+use Rattle.ground_tables.specs.Moves.{liEnd, liOver}
 use Rattle.ground_tables.specs.Watch.{groundWatch}
 use Rattle.ground_tables.specs.Intervals.{intervalOk, intervalsOk, agreed, intervalRow}
-use Rattle.ground_tables.specs.Tables.{idle, liIs, liBusy, groundAlso, tops, groundTables}
+use Rattle.ground_tables.specs.Tables.{liBusy, groundAlso, tops, groundTables}
 use Rattle.ground_tables.proofs.Fitting.{ground-fits}
 use Rattle.ground_tables.proofs.KeptIntervals.{asksWell, intervals-kept, agreed-other, force-most}
 use Rattle.ground_answer.specs.Record.{loads, view, good, fresh, followed, cleared, turned, moveAt, agreedAt, went}
 use Rattle.ground_answer.specs.declared.record.Link.{Link}
-use Rattle.ground_answer.specs.Answers.{DATA-REQUEST, END-REQUEST, LATE}
+use Rattle.ground_answer.specs.Answers.{END-REQUEST, LATE}
 use Rattle.ground_answer.specs.Aborts.{aborted, closed}
 use Rattle.ground_answer.specs.Clock.{waited, elapsed}
 use Rattle.ground.specs.Requests.{cancelled}
@@ -60,15 +61,6 @@ endedParts l e =
     ∷ part (agreedAt l LI-ACTIVE e 0) (moveAt l LI-ACTIVE e) DATA-REQUEST
     ∷ part (agreedAt l LI-ACTIVE e 0) liEnd END-REQUEST
     ∷ []
-
--- LI's own move to a state says nothing
-li-silent : (k : ℕ) → length (actsOf (liTo k) 0) ≡ 0
-unfolding actsOf
-li-silent k = refl
-
--- LI at k
-li-set : (at : List ℕ) (k : ℕ) → length at ≡ 5 → getD (set at LI k) LI 0 ≡ k
-li-set at k n = getD-set-same at LI k 0 (omega arith)
 
 busy-set : (at : List ℕ) (k : ℕ) → length at ≡ 5 → either (eqb k LI-START) (eqb k LI-ACTIVE) ≡ true → T (liBusy (set at LI k))
 unfolding liBusy
@@ -159,11 +151,6 @@ module _ (l : Link) (f : Fine l) where
       second-fit groundTables ground-fits v sound (fine-loads l f) (liTo k) (li-balanced k w) (may-move k w) e g entry (loads (agreedAt l k e n)) (agreed-loads k e n w g a)
       (λ t lt q. loads-steady l (agreed (l .interval) e n (moveAt l k e)) (moveAt l k e .who) (agreed-other (l .interval) e n (moveAt l k e)) t q)
 
-  went-room : (k e n entry : ℕ) → length (saidOf (wentParts l k e n entry)) + 0 ≤ 8
-  went-room k e n entry =
-      let m = moveAt l k e in
-      omega (arith, li-silent k, short m entry, length-append (actsOf (liTo k) 0) (actsOf m entry ++ []), length-append (actsOf m entry) [])
-
   -- the end request, where all modules are IDLE then
   sound-move : (k e n entry : ℕ) → Way (l .at) k → eqb (moveAt l k e .fate) 0 ≡ true → T (asksWell e n) → Sound groundTables (steps v (wentParts l k e n entry))
   sound-move k e n entry w g a = stepped-sound groundTables ground-fits _ _ (sound-li k w) (fit-move k e n entry w g a)
@@ -228,7 +215,7 @@ module _ (l : Link) (f : Fine l) where
         aborts = λ n s g. stops LI-IDLE (loads (cleared l)) [] (4 ∷ 6 ∷ []) tt (lit≤ tt) cleared-loads tt (abort-list l n f) refl;
         closes = λ entry reason g. stops LI-IDLE (loads (cleared l)) [] (entry ∷ []) tt (lit≤ tt) cleared-loads tt (closed-list l entry reason f) refl;
         cancels = λ g. stops LI-ACTIVE (loads (cleared l)) (part (cleared l) liEnd END-REQUEST ∷ []) [] tt (lit≤ tt) cleared-loads cancel-fits (cancel-list l f) refl;
-        goes = λ k e n entry s g w h a. plays (wentParts l k e n entry) [] (fit-li k w, (fit-move k e n entry w h a, tt)) refl (played-said (l .at) (l .left) (wentParts l k e n entry) [] (went-room k e n entry)) refl;
+        goes = λ k e n entry s g w h a. plays (wentParts l k e n entry) [] (fit-li k w, (fit-move k e n entry w h a, tt)) refl (played-said (l .at) (l .left) (wentParts l k e n entry) [] (went-room (loads l) (loads (agreedAt l k e n)) k (moveAt l k e) entry)) refl;
         ends = λ e s g b h a i. plays (endedParts l e) [] (fit-li LI-ACTIVE (stays-open b), (fit-move LI-ACTIVE e 0 DATA-REQUEST (stays-open b) h a, (fit-end e b h a i, tt))) refl (played-said (l .at) (l .left) (endedParts l e) [] (ended-room e)) refl;
         waits = λ n g d. waits d refl refl;
         turns = λ g h. plays (part l liOver 0 ∷ []) [] (over-fits h) refl (played-said (l .at) (l .left) (part l liOver 0 ∷ []) [] over-room) refl;

@@ -10,21 +10,22 @@ use Rattle.pdu.specs.declared.uplink.Ground.{Ground}
 use Rattle.pdu.specs.declared.downlink.AirPdu.{AirPdu}
 use Rattle.pdu.specs.DownlinkTable.{airC}
 use Rattle.link.specs.Tests.{either, pick, below}
-use Rattle.link.specs.Names.{timers}
+use Rattle.link.specs.Names.{timers, ABORT-REQUEST, ABORT-IND, PEER-ABORT-IND, DATA-REQUEST}
 use Rattle.link.specs.Clock.{notDue}
 use Rattle.link.specs.Step.{performed}
-use Rattle.link.proofs.Laws.{eq-T}
+use Rattle.link.proofs.Laws.{eq-T, pick-case, pick-same, allowed-case}
+use Rattle.link.specs.Watch.{idle, liIs}
 use Rattle.sides.specs.Runs.{seconds}
 use Rattle.ground_tables.specs.Names.{LI-IDLE, LI-START, LI-ACTIVE, LI-END}
 use Rattle.ground_tables.specs.Moves.{liEnd}
-use Rattle.ground_tables.specs.Tables.{idle, liIs, liBusy}
+use Rattle.ground_tables.specs.Tables.{liBusy}
 use Rattle.ground_tables.proofs.KeptIntervals.{asksWell}
 use Rattle.ground_answer.specs.Record.{loads, good, moveAt, agreedAt, went}
 use Rattle.ground_answer.specs.declared.record.Link.{Link}
 use Rattle.ground_answer.specs.Events.{cancel-all, requestEvent, asksFor, airEvent}
 use Rattle.ground_answer.specs.Sent.{outgoing}
 use Rattle.ground_answer.specs.declared.sent.Sent.{Sent}
-use Rattle.ground_answer.specs.Answers.{ABORT-REQUEST, ABORT-IND, PEER-ABORT-IND, START-REQUEST, DATA-REQUEST, END-REQUEST, refusal, tells, allowed}
+use Rattle.ground_answer.specs.Answers.{START-REQUEST, END-REQUEST, refusal, tells}
 use Rattle.ground_answer.specs.Aborts.{aborted, closed, closedWhen}
 use Rattle.ground_answer.specs.Clock.{waited, elapsed}
 use Rattle.ground.proofs.Asks.{asked-well, data-well}
@@ -56,14 +57,6 @@ pub record Kinds (l : Link) (P : ℕ → Answer → Type 0) : Type 0 where
   pub turns : T (good l) → T (liIs (l .at) LI-END) → P 0 (over l)
   pub late : T (good l) → P 0 (lateData l)
 
-pick-case : (Q : Answer → Type 0) (b : Bool) {x y : Answer} → (b ≡ true → Q x) → (b ≡ false → Q y) → Q (pick b x y)
-pick-case Q true f g = f refl
-pick-case Q false f g = g refl
-
-allowed-case : (Q : Answer → Type 0) (l : Link) (may : Bool) (number : ℕ) (a : Answer) → Q (refusal l 29) → Q (refusal l number)
-    → (T (good l) → T may → Q a) → Q (allowed l may number a)
-allowed-case Q l may number a bad barred f = pick-case Q (good l) (λ g. pick-case Q may (λ m. f (eq-T _ g) (eq-T _ m)) (λ m. barred)) (λ g. bad)
-
 busy-start : (at : List ℕ) → T (liIs at LI-START) → T (liBusy at)
 unfolding liBusy
 busy-start at t = go (liIs at LI-START) t
@@ -83,7 +76,7 @@ busy-active at t = go (liIs at LI-START) (liIs at LI-ACTIVE) t
 module _ (l : Link) (P : ℕ → Answer → Type 0) (k : Kinds l P) where
   closing : (may : Bool) (number entry reason : ℕ) → eqb number 0 ≡ false → P 0 (closedWhen l may number entry reason)
   unfolding closedWhen
-  closing may number entry reason h = allowed-case (P 0) l may number (closed l entry reason) (k .stays 29 refl) (k .stays number h) (λ g m. k .closes entry reason g)
+  closing may number entry reason h = allowed-case (P 0) (good l) may (closed l entry reason) (k .stays 29 refl) (k .stays number h) (λ g m. k .closes entry reason g)
 
   asking : (g : Ground) (li entry : ℕ) → Way (l .at) li → T (good l) → P 0 (asked l g li entry)
   unfolding asked
@@ -96,7 +89,7 @@ module _ (l : Link) (P : ℕ → Answer → Type 0) (k : Kinds l P) where
   unfolding requested allCancelled
   requesting g =
       pick-case (P 0) (eqb (requestEvent g) cancel-all)
-      (λ e. allowed-case (P 0) l (liIs (l .at) LI-ACTIVE) 1 (cancelled l) (k .stays 29 refl) (k .stays 1 refl) (λ g m. k .cancels g))
+      (λ e. allowed-case (P 0) (good l) (liIs (l .at) LI-ACTIVE) (cancelled l) (k .stays 29 refl) (k .stays 1 refl) (λ g m. k .cancels g))
       (λ e. pick-case (P 0) (good l)
       (λ ok. pick-case (P 0) (liIs (l .at) LI-IDLE) (λ i. asking g LI-START START-REQUEST (starts (eq-T _ i)) (eq-T _ ok))
       (λ i. pick-case (P 0) (liIs (l .at) LI-ACTIVE) (λ j. asking g LI-ACTIVE DATA-REQUEST (stays-open (busy-active (l .at) (eq-T _ j))) (eq-T _ ok)) (λ j. k .stays 1 refl)))
@@ -119,7 +112,7 @@ module _ (l : Link) (P : ℕ → Answer → Type 0) (k : Kinds l P) where
   confirming : (s : List ℕ) → P 0 (confirmed l s)
   unfolding confirmed
   confirming s =
-      allowed-case (P 0) l (liIs (l .at) LI-START) 2 (taken l (readPdu airC s)) (k .stays 29 refl) (k .stays 2 refl)
+      allowed-case (P 0) (good l) (liIs (l .at) LI-START) (taken l (readPdu airC s)) (k .stays 29 refl) (k .stays 2 refl)
       (λ g m. taking (readPdu airC s) g (busy-start (l .at) m))
 
   arriving : (s : List ℕ) → P 0 (arrived l s)
@@ -132,23 +125,19 @@ module _ (l : Link) (P : ℕ → Answer → Type 0) (k : Kinds l P) where
 
   finishing : P 0 (endConfirmed l)
   unfolding endConfirmed
-  finishing = allowed-case (P 0) l (liIs (l .at) LI-END) 2 (over l) (k .stays 29 refl) (k .stays 2 refl) (λ g m. k .turns g m)
+  finishing = allowed-case (P 0) (good l) (liIs (l .at) LI-END) (over l) (k .stays 29 refl) (k .stays 2 refl) (λ g m. k .turns g m)
 
   -- accepted seconds of an elapse: none where it is refused
   elapsing : (n : ℕ) → P (pick (eqb (elapsed l n .said .refusal) 0) n 0) (elapsed l n)
   unfolding elapsed waited aborted
   elapsing n =
-      allowed-case (λ (a : Answer). P (pick (eqb (a .said .refusal) 0) n 0) a) l (leb n 86400) 4
+      allowed-case (λ (a : Answer). P (pick (eqb (a .said .refusal) 0) n 0) a) (good l) (leb n 86400)
       (pick (below timers (notDue n (l .left))) (waited l n) (aborted l 4)) (k .stays 29 refl) (k .stays 4 refl)
       (λ g m. pick-case (λ (a : Answer). P (pick (eqb (a .said .refusal) 0) n 0) a) (below timers (notDue n (l .left)))
       (λ d. k .waits n g (eq-T _ d)) (λ d. k .aborts 4 n g))
 
   none-asked : (a : Answer) → P 0 a → P (pick (eqb (a .said .refusal) 0) 0 0) a
-  none-asked a p = go (eqb (a .said .refusal) 0)
-    where
-      go : (b : Bool) → P (pick b 0 0) a
-      go true = p
-      go false = p
+  none-asked a p = pick-same (λ (n : ℕ). P n a) (eqb (a .said .refusal) 0) p
 
   pub every : (c : Made) → P (seconds ground l c) (reply l c)
   unfolding seconds answered userAborted rejected failed airAborted peerAborted

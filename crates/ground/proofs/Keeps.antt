@@ -5,7 +5,7 @@ use mathlib.Core.List.{List}
 use Prim.Native.Nat.{ℕ, _+_, _^_, _<_, _≤_}
 use native.Mathlib.Omega.{arith}
 use native.Mathlib.Nat.{mod-eq-of-lt}
-use lib.Dec.{T, eqb, leb, leb→le, lit≤, lit<}
+use lib.Dec.{T, eqb, lit≤, lit<}
 use lib.ListN.{length, getD}
 use lib.Seq.{getD-set-same, getD-set-other}
 use borrow.Author.Tests.{eqb-true, eqb-false}
@@ -13,7 +13,7 @@ use Rattle.link.specs.Tests.{both, pick, below}
 use Rattle.link.specs.Names.{timers, PC}
 use Rattle.link.specs.Watch.{settingOk}
 use Rattle.link.specs.Step.{restAt}
-use Rattle.link.proofs.Laws.{both-left, both-right, both-T, below-at}
+use Rattle.link.proofs.Laws.{both-left, both-right, both-T, below-at, seconds-range}
 use Rattle.sides.specs.Runs.{Sound, Loads, timersOk, rested}
 use Rattle.sides.proofs.Keeps.{rested-sound}
 use Rattle.ground_tables.specs.Names.{PC2, LI-IDLE}
@@ -64,11 +64,7 @@ make-fine l e a i s =
 
 setting-range : (s : List ℕ) → T (below timers (settingOk s)) → (t : ℕ) → t < timers → (1 ≤ getD s t 0) × (getD s t 0 ≤ 86400)
 unfolding settingOk
-setting-range s h t lt =
-    let a = leb 1 (getD s t 0) in
-    let b = leb (getD s t 0) 86400 in
-    let r = below-at timers (settingOk s) h t lt in
-    (leb→le 1 (getD s t 0) (both-left a b r), leb→le (getD s t 0) 86400 (both-right a b r))
+setting-range s h t lt = seconds-range (getD s t 0) (below-at timers (settingOk s) h t lt)
 
 -- ---- what a start loads
 

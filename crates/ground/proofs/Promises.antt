@@ -1,20 +1,18 @@
 -- What holds of every call on every link, and what a timer may have left. Assumes nothing.
-use mathlib.Core.Path.{_≡_, refl, sym, subst, ap, _∙_}
+use mathlib.Core.Path.{_≡_, refl, sym, ap, _∙_}
 use mathlib.Core.Bool.{Bool, true, false}
 use mathlib.Core.List.{List, [], _∷_}
 use Prim.Native.Nat.{ℕ, _+_, _≤_}
 use native.Mathlib.Nat.{add-zero}
-use native.Mathlib.Omega.{arith}
 use borrow.Author.Tests.{eqb-true}
-use lib.Dec.{T, ltb, eqb, ltb→lt}
-use lib.ListN.{length, getD, set}
+use lib.Dec.{T, eqb}
+use lib.ListN.{length, getD}
 use Rattle.link.specs.Tests.{pick, below}
 use Rattle.link.specs.Names.{timers, PC}
 use Rattle.link.specs.Watch.{settingOk}
-use Rattle.link.specs.Acts.{acts, pushed, pushedAll}
+use Rattle.link.specs.Acts.{acts}
 use Rattle.link.specs.Step.{performed, begun, added, stopped}
-use Rattle.link.specs.declared.acts.Acts.{Acts}
-use Rattle.link.proofs.Laws.{no-true}
+use Rattle.link.proofs.Laws.{no-true, pushed-most, all-most, none-most}
 use Rattle.sides.specs.Runs.{after}
 use Rattle.ground_tables.specs.Names.{PC2}
 use Rattle.ground_tables.specs.Intervals.{intervalsOk}
@@ -56,23 +54,6 @@ refused-still l c = every l (λ n a. eqb (a .said .refusal) 0 ≡ false → a �
 -- "each public call has one possible result"
 pub one-answer : (l : Link) (c : Call) (s : List ℕ) {r q : Answer} → r ≡ answered l c s → q ≡ answered l c s → r ≡ q
 one-answer l c s p q = p ∙ sym q
-
-pushed-most : (a : Acts) (x : ℕ) → a .n ≤ 8 → pushed a x .n ≤ 8
-unfolding pushed
-pushed-most a x h = go (ltb (a .n) 8) refl
-  where
-    go : (b : Bool) → ltb (a .n) 8 ≡ b → pick b (record { n = a .n + 1; list = set (a .list) (a .n) x }) a .n ≤ 8
-    go true e = let k = ltb→lt (a .n) 8 (subst T (sym e) tt) in omega arith
-    go false e = h
-
-all-most : (a : Acts) (xs : List ℕ) → a .n ≤ 8 → pushedAll a xs .n ≤ 8
-unfolding pushedAll
-all-most a [] h = h
-all-most a (x ∷ xs) h = all-most (pushed a x) xs (pushed-most a x h)
-
-none-most : acts [] .n ≤ 8
-unfolding acts
-none-most = omega arith
 
 -- "An action list has at most 8 entries." That none is cut to be so: `closed-list`, `abort-list`, `cancel-list` (Stops.antt), `short` (sides/proofs/Stops.antt)
 pub at-most-8 : (l : Link) (c : Made) → reply l c .said .acts .n ≤ 8

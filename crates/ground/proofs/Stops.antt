@@ -6,9 +6,9 @@ use lib.Dec.{lit≤}
 use Rattle.link.specs.Names.{timers}
 use Rattle.link.specs.Acts.{acts, pushedAll}
 use Rattle.link.specs.Clock.{stopsOf}
-use Rattle.link.specs.Step.{actsOf, added}
-use Rattle.sides.proofs.Ways.{stopped-said}
-use Rattle.ground_tables.specs.Names.{LI-IDLE, LI-ACTIVE}
+use Rattle.link.specs.Step.{actsOf}
+use Rattle.sides.proofs.Ways.{stopped-said, then-said, abort-said}
+use Rattle.ground_tables.specs.Names.{LI-ACTIVE}
 use Rattle.ground_tables.specs.Moves.{liEnd}
 use Rattle.ground_tables.proofs.Fitting.{ground-fits}
 use Rattle.ground_tables.specs.Tables.{groundTables}
@@ -21,12 +21,12 @@ use Rattle.ground.proofs.Keeps.{Fine, fine-sound}
 
 -- the stops of a good link are all said, and so is what follows them
 pub closed-list : (l : Link) (entry reason : ℕ) → Fine l → closed l entry reason .said .acts ≡ acts (stopsOf timers (l .left) ++ (entry ∷ []))
-unfolding closed added pushedAll
-closed-list l entry reason f = stopped-said groundTables ground-fits (view l) (fine-sound l f) LI-IDLE [] (entry ∷ []) (lit≤ tt)
+unfolding closed
+closed-list l entry reason f = then-said groundTables ground-fits (view l) (fine-sound l f) entry
 
 pub abort-list : (l : Link) (n : ℕ) → Fine l → aborted l n .said .acts ≡ acts (stopsOf timers (l .left) ++ (4 ∷ 6 ∷ []))
-unfolding aborted added pushedAll
-abort-list l n f = stopped-said groundTables ground-fits (view l) (fine-sound l f) LI-IDLE [] (4 ∷ 6 ∷ []) (lit≤ tt)
+unfolding aborted
+abort-list l n f = abort-said groundTables ground-fits (view l) (fine-sound l f)
 
 pub cancel-list : (l : Link) → Fine l → cancelled l .said .acts ≡ acts (stopsOf timers (l .left) ++ (3 ∷ []))
 unfolding cancelled pushedAll actsOf

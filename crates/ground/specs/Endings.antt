@@ -7,17 +7,18 @@ use Rattle.per.specs.Pdu.{readPdu, got, refused}
 use Rattle.pdu.specs.declared.downlink.AirPdu.{AirPdu}
 use Rattle.pdu.specs.DownlinkTable.{airC}
 use Rattle.link.specs.Step.{performed, begun}
+use Rattle.link.specs.Watch.{liIs}
+use Rattle.link.specs.Names.{ABORT-IND, PEER-ABORT-IND}
 use Rattle.ground_tables.specs.Names.{LI-IDLE, LI-START, LI-END}
 use Rattle.ground_tables.specs.Moves.{liOver}
-use Rattle.ground_tables.specs.Tables.{liIs}
 use Rattle.ground_answer.specs.Record.{loads}
 use Rattle.ground_answer.specs.declared.record.Link.{Link}
 use Rattle.ground_answer.specs.Events.{reasonIn}
-use Rattle.ground_answer.specs.Answers.{ABORT-IND, PEER-ABORT-IND, quietly, allowed}
+use Rattle.ground_answer.specs.Answers.{quietly, allowed}
 use Rattle.ground_answer.specs.Aborts.{closedWhen}
 use Rattle.ground_answer.specs.declared.answer.Answer.{Answer}
 use Rattle.refusals.specs.Refusals.{CANNOT-OCCUR}
-use Rattle.ground_answer.specs.Reasons.{NO-CONTACT, PROVIDER-FAILURE, UNDEFINED-ERROR}
+use Rattle.pdu.specs.Reasons.{NO-CONTACT, PROVIDER-FAILURE, UNDEFINED-ERROR}
 
 -- "rejected, abort 5 without an abort request"
 unfoldable pub rejected : Link → Answer

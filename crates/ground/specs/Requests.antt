@@ -6,18 +6,18 @@ use Rattle.pdu.specs.declared.uplink.Ground.{Ground}
 use Rattle.pdu.specs.declared.uplink.Ground.the-variants.{CancelAll}
 use Rattle.link.specs.Tests.{pick}
 use Rattle.link.specs.Step.{performed, stopped}
+use Rattle.link.specs.Watch.{liIs}
 use Rattle.ground_tables.specs.Names.{LI-IDLE, LI-START, LI-ACTIVE}
 use Rattle.ground_tables.specs.Moves.{liEnd}
-use Rattle.ground_tables.specs.Tables.{liIs}
 use Rattle.ground_answer.specs.Record.{loads, cleared, moveAt, agreedAt, went}
 use Rattle.ground_answer.specs.declared.record.Link.{Link}
 use Rattle.ground_answer.specs.Events.{cancel-all, requestEvent, asksFor}
 use Rattle.ground_answer.specs.Sent.{outgoing}
-use Rattle.ground_answer.specs.Answers.{START-REQUEST, DATA-REQUEST, END-REQUEST, ABORT-REQUEST, refusal, tells, checked, allowed}
+use Rattle.ground_answer.specs.Answers.{START-REQUEST, END-REQUEST, refusal, tells, checked, allowed}
 use Rattle.ground_answer.specs.Aborts.{closedWhen}
 use Rattle.ground_answer.specs.declared.answer.Answer.{Answer}
 use Rattle.refusals.specs.Refusals.{NOT-PERMITTED}
-use Rattle.link.specs.Names.{GOES}
+use Rattle.link.specs.Names.{GOES, DATA-REQUEST, ABORT-REQUEST}
 
 -- a module's request, with LI at li from then on: 1 where no row has it, then what its fields are refused with, else the move
 unfoldable pub asked : Link → Ground → ℕ → ℕ → Answer

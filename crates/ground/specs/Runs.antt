@@ -13,7 +13,7 @@ use Rattle.ground.specs.Endings.{rejected, failed, airAborted, peerAbort
 use Rattle.ground_answer.specs.declared.answer.Answer.{Answer}
 use Rattle.ground.specs.declared.call.Call.{Call}
 use Rattle.ground.specs.declared.call.Call.the-variants.{Request, UserAbort, Elapse, StartConfirm, StartRejected, Data, EndConfirm, PeerAbort, AirAbort, Down}
-use Rattle.ground_answer.specs.Reasons.{TIMER-EXPIRY}
+use Rattle.pdu.specs.Reasons.{TIMER-EXPIRY}
 
 unfoldable pub answered : Link → Call → List ℕ → Answer
 answered l (Request g) s = requested l g

@@ -13,6 +13,8 @@ use ground_answer::sent::write;
 use ground_tables::decide::decide;
 use ground_tables::decide::li_end;
 use ground_tables::names::*;
+use link::actions::ABORT_REQUEST;
+use link::actions::DATA_REQUEST;
 use link::executor::perform;
 use link::executor::stop_all;
 use link::moves::GOES;

@@ -13,24 +13,12 @@ use Rattle.ground_answer.specs.declared.sent.Sent.{Sent}
 use Rattle.ground_answer.specs.declared.answer.Answer.{Answer}
 use Rattle.refusals.specs.Refusals.{BAD-RECORD}
 
--- entries of an action list; beside them 5 is an indication, 16 and a timer's number its stop, 32 and it its start
+-- entries of an action list beside link's own
 abbrev pub START-REQUEST : ℕ
 START-REQUEST = 1
 
-abbrev pub DATA-REQUEST : ℕ
-DATA-REQUEST = 2
-
 abbrev pub END-REQUEST : ℕ
 END-REQUEST = 3
-
-abbrev pub ABORT-REQUEST : ℕ
-ABORT-REQUEST = 4
-
-abbrev pub ABORT-IND : ℕ
-ABORT-IND = 6
-
-abbrev pub PEER-ABORT-IND : ℕ
-PEER-ABORT-IND = 7
 
 abbrev pub LATE : ℕ
 LATE = 8

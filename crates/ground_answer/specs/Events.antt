@@ -2,8 +2,8 @@
 use Prim.Native.Nat.{ℕ, _*_}
 use lib.Dec.{eqb}
 use Rattle.link.specs.Tests.{pick}
-use Rattle.link.specs.Names.{DC, EC, PC, EM}
-use Rattle.ground_tables.specs.Names.{of, request, cancel, modify, dc-report-ack, dc-report, dc-negative, dc-noncompliance, report-ack, report, positive, noncompliance, cancelled, negative, em-report, em-report-ack, em-positive, em-cancel}
+use Rattle.link.specs.Names.{DC, EC, PC, EM, of, no-request, no-data}
+use Rattle.ground_tables.specs.Names.{request, cancel, modify, dc-report-ack, dc-report, dc-negative, dc-noncompliance, report-ack, report, positive, noncompliance, cancelled, negative, em-report, em-report-ack, em-positive, em-cancel}
 use Rattle.pdu_parts.specs.declared.interval.Interval.{Interval}
 use Rattle.pdu_parts.specs.declared.interval.Interval.the-variants.{Seconds, Minutes}
 use Rattle.pdu.specs.declared.uplink.Ground.{Ground}
@@ -13,17 +13,11 @@ use Rattle.pdu.specs.declared.downlink.Air.{Air}
 use Rattle.pdu.specs.DownlinkTable.{kindTag}
 use Rattle.pdu.specs.Contents.{numberOf}
 use Rattle.pdu.specs.declared.downlink.Air.the-variants.{CancelEmergency, Demand, Emergency, Event, Negative, Noncompliance, Periodic, Positive, Abort}
-use Rattle.ground_answer.specs.Reasons.{UNDEFINED-ERROR}
+use Rattle.pdu.specs.Reasons.{UNDEFINED-ERROR}
 
--- from 64 on an event is of no module: 64 a request that none has, 65 cancel-all, 68 data that none lists
-abbrev pub no-request : ℕ
-no-request = of 4 0
-
+-- LI's own request, of no module
 abbrev pub cancel-all : ℕ
 cancel-all = of 4 1
-
-abbrev pub no-data : ℕ
-no-data = of 4 4
 
 -- request types: 0 event, 1 periodic, 2 demand, 3 cancel event, 4 cancel periodic, 5 modify emergency, 6 cancel all, 7 end forward.
 -- "negative ack (demand)", "negative ack (event)" and for PC the same; no table lists another, that of a modify neither

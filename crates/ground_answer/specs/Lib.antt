@@ -1,4 +1,3 @@
-pub mod Reasons
 pub mod Events
 pub mod Sent
 pub mod Record

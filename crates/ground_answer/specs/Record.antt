@@ -11,10 +11,10 @@ use Rattle.link.specs.Watch.{settingOk}
 use Rattle.link.specs.Step.{performed, begun, restAt}
 use Rattle.link.specs.declared.moves.Move.{Move}
 use Rattle.link.specs.declared.executor.Step.{Step}
+use Rattle.link.specs.Moves.{liTo}
 use Rattle.sides.specs.Tables.{moveOf}
 use Rattle.sides.specs.Runs.{View, timersOk}
 use Rattle.ground_tables.specs.Names.{PC2, LI-IDLE}
-use Rattle.ground_tables.specs.Moves.{liTo}
 use Rattle.ground_tables.specs.Intervals.{noIntervals, intervalsOk, agreed}
 use Rattle.ground_tables.specs.declared.intervals.Intervals.{Intervals}
 use Rattle.ground_tables.specs.Tables.{groundTables}

@@ -5,9 +5,8 @@ use crate::record::clear;
 use crate::record::is_good;
 use crate::sent::nothing;
 use crate::sent::write;
-use ground_tables::names::LI_IDLE;
-use link::executor::add;
-use link::executor::stop_all;
+use link::executor::abort_all;
+use link::executor::stop_then;
 use pdu::uplink::Ground;
 use refusals::BAD_RECORD;
 ghost use mathlib.Core.Path.{_≡_};
@@ -18,12 +17,7 @@ fn close(l: Link, entry: u8, reason: u32) -> Answer
     ensures { λ r. ⌜ r ≡ closed l entry reason ⌝ }
 {
     let left = l.left;
-    tell(
-        clear(l),
-        add(stop_all(left, LI_IDLE), entry),
-        reason,
-        nothing(),
-    )
+    tell(clear(l), stop_then(left, entry), reason, nothing())
 }
 
 // Stops, abort request with the ground provider abort, abort indication, all IDLE.
@@ -31,7 +25,7 @@ pub fn abort(l: Link, reason: u32) -> Answer
     ensures { λ r. ⌜ r ≡ aborted l reason ⌝ }
 {
     let left = l.left;
-    let step = add(add(stop_all(left, LI_IDLE), ABORT_REQUEST), ABORT_IND);
+    let step = abort_all(left);
     let w = write(Ground::Abort(reason));
     let sent = w.sent;
     tell(clear(l), step, reason, sent)

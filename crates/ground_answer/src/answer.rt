@@ -12,15 +12,7 @@ ghost use Rattle.ground_answer.specs.Answers.{refusal, tells, quietly};
 // Entries of an action list beside link's own.
 pub const START_REQUEST: u8 = 1;
 
-pub const DATA_REQUEST: u8 = 2;
-
 pub const END_REQUEST: u8 = 3;
-
-pub const ABORT_REQUEST: u8 = 4;
-
-pub const ABORT_IND: u8 = 6;
-
-pub const PEER_ABORT_IND: u8 = 7;
 
 pub const LATE: u8 = 8;
 

@@ -1,12 +1,13 @@
 // The clock.
 use crate::abort::abort;
 use crate::answer::*;
-use crate::reasons::TIMER_EXPIRY;
 use crate::record::Link;
 use crate::record::is_good;
+use link::clock::ELAPSE_MOST;
 use link::clock::after;
 use link::clock::none_due;
 use link::executor::begin;
+use pdu::reasons::TIMER_EXPIRY;
 use refusals::BAD_RECORD;
 use refusals::ELAPSE_OVER;
 ghost use mathlib.Core.Path.{_≡_};
@@ -19,7 +20,7 @@ pub fn elapse(l: Link, n: u32) -> Answer
     if !is_good(l) {
         return refuse(l, BAD_RECORD);
     }
-    if 86400 < n {
+    if ELAPSE_MOST < n {
         return refuse(l, ELAPSE_OVER);
     }
     let at = l.at;

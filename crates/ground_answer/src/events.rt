@@ -1,25 +1,19 @@
 // The event that a PDU is: 16 for each module before its own, and the kind.
-use crate::reasons::UNDEFINED_ERROR;
 use ground_tables::names::*;
+use link::moves::NO_DATA;
+use link::moves::NO_REQUEST;
+use link::moves::OF_EC;
+use link::moves::OF_EM;
+use link::moves::OF_PC;
+use link::moves::by_ack;
 use pdu::downlink::Air;
+use pdu::reasons::UNDEFINED_ERROR;
 use pdu::uplink::Ground;
 ghost use mathlib.Core.Path.{_≡_};
-ghost use Rattle.link.specs.Tests.{pick};
 ghost use Rattle.ground_answer.specs.Events.{negativeEvent, positiveEvent, unmetEvent, airEvent, cancelEvent, requestEvent, reasonIn};
 
-// No module's: a request that none has, LI's own request, data that none lists.
-const NO_REQUEST: u8 = 64;
-
+// LI's own request, of no module.
 pub const CANCEL_ALL: u8 = 65;
-
-const NO_DATA: u8 = 68;
-
-// One event for a report with the ack, another for a plain one.
-fn by_ack(ack: bool, with: u8, plain: u8) -> u8
-    ensures { λ r. ⌜ r ≡ pick ack with plain ⌝ }
-{
-    if ack { with } else { plain }
-}
 
 fn negative_event(request: u32) -> u8
     ensures { λ r. ⌜ r ≡ negativeEvent request ⌝ }

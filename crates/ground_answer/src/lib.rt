@@ -4,6 +4,5 @@ pub mod answer;
 pub mod clock;
 pub mod events;
 pub mod fresh;
-pub mod reasons;
 pub mod record;
 pub mod sent;

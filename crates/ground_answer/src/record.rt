@@ -1,5 +1,4 @@
 // The link record: made, changed and checked here.
-use ground_tables::decide::li_to;
 use ground_tables::intervals::Intervals;
 use ground_tables::intervals::agree;
 use ground_tables::intervals::intervals_ok;
@@ -11,12 +10,14 @@ use link::executor::begin;
 use link::executor::perform;
 use link::moves::Move;
 use link::moves::TIMERS;
+use link::moves::li_to;
+use link::watch::all_idle;
 use link::watch::settings_ok;
 use link::watch::states_ok;
 use link::watch::timers_ok;
 use std::num::wrapping_add_u32;
 ghost use mathlib.Core.Path.{_≡_};
-ghost use Rattle.ground_tables.specs.Tables.{idle, liOk};
+ghost use Rattle.ground_tables.specs.Tables.{liOk};
 ghost use Rattle.ground_answer.specs.Record.{made, holding, loads, good, followed, cleared, turned};
 ghost use Rattle.ground_tables.specs.Intervals.{agreed};
 
@@ -91,22 +92,6 @@ pub fn turn(l: Link, li: u8) -> Step
     let at = l.at;
     let left = l.left;
     perform(begin(at, left), li_to(li), most_of(l), 0)
-}
-
-// Whether all four modules are IDLE.
-pub fn all_idle(at: [u8; 5]) -> bool
-    ensures { λ r. ⌜ r ≡ idle at ⌝ }
-{
-    if at[0] != IDLE {
-        return false;
-    }
-    if at[1] != IDLE {
-        return false;
-    }
-    if at[2] != IDLE {
-        return false;
-    }
-    at[3] == IDLE
 }
 
 fn li_ok(at: [u8; 5]) -> bool

@@ -9,12 +9,12 @@ use lib.ListN.{length, getD, set}
 use lib.Seq.{getD-set-same, getD-set-other}
 use borrow.Author.Tests.{eqb-true, eqb-false}
 use Rattle.link.specs.Tests.{both, pick}
-use Rattle.link.specs.Names.{PC}
+use Rattle.link.specs.Names.{PC, IDLE, of}
 use Rattle.link.specs.declared.moves.Move.{Move}
 use Rattle.link.proofs.Laws.{both-left, both-right, both-T}
 use Rattle.sides.specs.Tables.{same}
 use Rattle.sides.proofs.Fits.{same-eq}
-use Rattle.ground_tables.specs.Names.{IDLE, of, request}
+use Rattle.ground_tables.specs.Names.{request}
 use Rattle.ground_tables.specs.Intervals.{INTERVAL-MOST, askedAt, forceAt, holds, intervalOk, intervalsOk, agrees, answers, askedAfter, forceAfter, agreed, intervalRow}
 use Rattle.ground_tables.specs.declared.intervals.Intervals.{Intervals}
 

@@ -5,10 +5,10 @@ use Prim.Native.Nat.{ℕ}
 use lib.Dec.{eqb, leb}
 use lib.ListN.{getD}
 use Rattle.link.specs.Tests.{both, either, pick}
-use Rattle.link.specs.Names.{PC}
+use Rattle.link.specs.Names.{PC, IDLE, of}
 use Rattle.link.specs.declared.moves.Move.{Move}
 use Rattle.sides.specs.Tables.{same}
-use Rattle.ground_tables.specs.Names.{IDLE, START-PENDING, PENDING, CANCEL, of, request, report-ack, positive, noncompliance, negative}
+use Rattle.ground_tables.specs.Names.{START-PENDING, PENDING, CANCEL, request, report-ack, positive, noncompliance, negative}
 use Rattle.ground_tables.specs.declared.intervals.Intervals.{Intervals}
 
 abbrev pub noIntervals : Intervals

@@ -1,12 +1,8 @@
 -- The numbers of states, timers and events, under the names of 01.
-use Prim.Native.Nat.{ℕ, _+_, _*_}
-use Rattle.link.specs.Names.{GROUP}
+use Prim.Native.Nat.{ℕ}
 
 -- states: DC has IDLE, PENDING and ACTIVE; EC and PC have IDLE, START-PENDING, PENDING, ACTIVE and CANCEL; EM has IDLE, ACTIVE and MODIFY; LI has IDLE, START, ACTIVE and END.
--- They are numbered so that the states of each timer stand together
-abbrev pub IDLE : ℕ
-IDLE = 0
-
+-- They are numbered so that the states of each timer stand together; IDLE is 0, link's
 abbrev pub DC-PENDING : ℕ
 DC-PENDING = 1
 
@@ -70,10 +66,6 @@ EM1 = 7
 
 abbrev pub EM2 : ℕ
 EM2 = 8
-
--- an event of a module
-abbrev pub of : ℕ → ℕ → ℕ
-of who kind = GROUP * who + kind
 
 -- events of a module, requests below 4 and downlink data from 4 on. DC: request; report with ack, plain report, negative ack, noncompliance
 abbrev pub request : ℕ

@@ -3,24 +3,16 @@ use mathlib.Core.Bool.{Bool, true, not}
 use mathlib.Core.List.{List, [], _∷_}
 use Prim.Native.Nat.{ℕ}
 use lib.Dec.{eqb}
-use lib.ListN.{getD}
 use Rattle.link.specs.Tests.{both, either, pick}
-use Rattle.link.specs.Names.{DC, EC, PC, EM, LI}
+use Rattle.link.specs.Names.{PC, LI}
+use Rattle.link.specs.Moves.{liTo}
+use Rattle.link.specs.Watch.{idle, liIs}
 use Rattle.link.specs.declared.moves.Move.{Move}
 use Rattle.sides.specs.Tables.{Tables}
-use Rattle.ground_tables.specs.Names.{IDLE, DC-ACTIVE, CANCEL, MODIFY, LI-IDLE, LI-START, LI-ACTIVE, LI-END, DC1, DC2, EC1, EC2, PC1, PC2, PC3, EM1, EM2}
-use Rattle.ground_tables.specs.Moves.{groundRows, liTo, liEnd, liOver}
+use Rattle.ground_tables.specs.Names.{DC-ACTIVE, CANCEL, MODIFY, LI-IDLE, LI-START, LI-ACTIVE, LI-END, DC1, DC2, EC1, EC2, PC1, PC2, PC3, EM1, EM2}
+use Rattle.ground_tables.specs.Moves.{groundRows, liEnd, liOver}
 use Rattle.ground_tables.specs.Watch.{groundWatch}
 use Rattle.ground_tables.specs.Intervals.{intervalRow}
-
--- all four modules are IDLE
-unfoldable pub idle : List ℕ → Bool
-idle at =
-    both (eqb (getD at DC 0) IDLE)
-    (both (eqb (getD at EC 0) IDLE) (both (eqb (getD at PC 0) IDLE) (eqb (getD at EM 0) IDLE)))
-
-abbrev pub liIs : List ℕ → ℕ → Bool
-liIs at k = eqb (getD at LI 0) k
 
 -- "LI in IDLE or END with a module not IDLE" is 29
 unfoldable pub liOk : List ℕ → Bool

@@ -2,8 +2,8 @@
 -- EM-IDLE; PC3 PC-CANCEL; EM1 EM-ACTIVE; EM2 EM-MODIFY."
 use mathlib.Core.List.{[], _∷_}
 use Rattle.link.specs.declared.watch.Watch.{Watch}
-use Rattle.link.specs.Names.{DC, EC, PC, EM}
-use Rattle.ground_tables.specs.Names.{IDLE, DC-PENDING, DC-ACTIVE, START-PENDING, PENDING, ACTIVE, CANCEL, EM-ACTIVE, MODIFY}
+use Rattle.link.specs.Names.{DC, EC, PC, EM, IDLE}
+use Rattle.ground_tables.specs.Names.{DC-PENDING, DC-ACTIVE, START-PENDING, PENDING, ACTIVE, CANCEL, EM-ACTIVE, MODIFY}
 
 -- the module by whose states the timer goes, the first and the last of the states at which it runs, and the last state of EM: IDLE alone for PC2
 unfoldable pub groundWatch : Watch

@@ -7,7 +7,7 @@ ghost use lib.Dec.{eqb};
 ghost use Rattle.link.specs.Names.{no-timer};
 ghost use Rattle.link.specs.Tests.{pick};
 ghost use Rattle.sides.specs.Tables.{moveOf};
-ghost use Rattle.ground_tables.specs.Moves.{dcMove, contractMove, emMove, liTo, liEnd, liOver};
+ghost use Rattle.ground_tables.specs.Moves.{dcMove, contractMove, emMove, liEnd, liOver};
 ghost use Rattle.ground_tables.specs.Tables.{groundTables};
 
 fn dc_move(state: u8, kind: u8) -> Move
@@ -110,13 +110,7 @@ pub fn decide(at: [u8; 5], event: u8) -> Move
     }
 }
 
-// LI's own moves: to a state, the end request, the end confirm.
-pub fn li_to(k: u8) -> Move
-    ensures { λ r. ⌜ r ≡ liTo k ⌝ }
-{
-    go(LI, k, NO_TIMER, false, false, NO_TIMER)
-}
-
+// LI's own moves: the end request, the end confirm.
 pub fn li_end() -> Move
     ensures { λ r. ⌜ r ≡ liEnd ⌝ }
 {

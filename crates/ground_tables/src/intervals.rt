@@ -1,6 +1,8 @@
 // The intervals of a periodic contract: which states of PC have them, and what an event makes of them.
 use crate::names::*;
+use link::moves::IDLE;
 use link::moves::Move;
+use link::moves::OF_PC;
 use link::moves::PC;
 ghost use mathlib.Core.Path.{_≡_};
 ghost use lib.Dec.{leb};

@@ -1,8 +1,6 @@
 // The numbers of states, timers and events, under the names of 01.
 
 // states
-pub const IDLE: u8 = 0;
-
 pub const DC_PENDING: u8 = 1;
 
 pub const DC_ACTIVE: u8 = 2;
@@ -48,13 +46,6 @@ pub const PC3: u8 = 6;
 pub const EM1: u8 = 7;
 
 pub const EM2: u8 = 8;
-
-// the first event of each module behind DC
-pub const OF_EC: u8 = 16;
-
-pub const OF_PC: u8 = 32;
-
-pub const OF_EM: u8 = 48;
 
 // events of DC
 pub const REQUEST: u8 = 0;

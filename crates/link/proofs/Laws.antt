@@ -9,10 +9,11 @@ use native.Mathlib.Nat.{not-suc-le-zero, le-of-suc-le-suc, eq-or-lt-of-le, le-of
 use native.Mathlib.Numerals.{add-one}
 use borrow.Author.Tests.{lt-ltb}
 use lib.Seq.{take-all, set-append-seam}
-use lib.Dec.{T}
+use lib.Dec.{T, leb, ltb, leb→le, ltb→lt}
 use lib.ListN.{length, getD, set, take, drop, replicate, drop-of-length-le, length-append}
 use Rattle.link.specs.Tests.{both, pick, below}
 use Rattle.link.specs.Acts.{acts, pushed, pushedAll}
+use Rattle.link.specs.Watch.{secondsOk}
 use Rattle.link.specs.declared.acts.Acts.{Acts}
 
 -- `⊎-elim` with the sum first, so that each side's type is known where it is taken apart
@@ -99,6 +100,25 @@ pub T-eq : (b : Bool) → T b → b ≡ true
 T-eq true t = refl
 T-eq false t = absurd t
 
+-- a setting is in range
+pub seconds-range : (x : ℕ) → T (secondsOk x) → (1 ≤ x) × (x ≤ 86400)
+seconds-range x t =
+    let a = leb 1 x in
+    let b = leb x 86400 in
+    (leb→le 1 x (both-left a b t), leb→le x 86400 (both-right a b t))
+
+-- what holds of both things holds of the choice between them
+pub pick-case : {A : Type 0} (Q : A → Type 0) (b : Bool) {x y : A} → (b ≡ true → Q x) → (b ≡ false → Q y) → Q (pick b x y)
+pick-case Q true f g = f refl
+pick-case Q false f g = g refl
+
+pub pick-same : {A : Type 0} (Q : A → Type 0) (b : Bool) {x : A} → Q x → Q (pick b x x)
+pick-same Q b q = pick-case Q b (λ e. q) (λ e. q)
+
+-- an answer that is given where the record is good and the call may come; else one of two refusals
+pub allowed-case : {A : Type 0} (Q : A → Type 0) (good may : Bool) (a : A) {barred bad : A} → Q bad → Q barred → (T good → T may → Q a) → Q (pick good (pick may a barred) bad)
+allowed-case Q good may a bad barred f = pick-case Q good (λ g. pick-case Q may (λ m. f (eq-T good g) (eq-T may m)) (λ m. barred)) (λ g. bad)
+
 -- pushes, one list after the other
 pub pushed-append : (a : Acts) (xs ys : List ℕ) → pushedAll a (xs ++ ys) ≡ pushedAll (pushedAll a xs) ys
 unfolding pushedAll
@@ -128,6 +148,20 @@ pushed-list l (x ∷ xs) h =
     ap (λ (a : Acts). pushedAll a xs) (push-acts l x (omega arith))
     ∙ pushed-list (l ++ (x ∷ [])) xs (omega (arith, length-append l (x ∷ [])))
     ∙ ap acts (append-assoc l (x ∷ []) xs)
+
+-- no list grows over eight
+pub pushed-most : (a : Acts) (x : ℕ) → a .n ≤ 8 → pushed a x .n ≤ 8
+unfolding pushed
+pushed-most a x h = pick-case (λ (r : Acts). r .n ≤ 8) (ltb (a .n) 8) (λ e. let k = ltb→lt (a .n) 8 (eq-T _ e) in omega arith) (λ e. h)
+
+pub all-most : (a : Acts) (xs : List ℕ) → a .n ≤ 8 → pushedAll a xs .n ≤ 8
+unfolding pushedAll
+all-most a [] h = h
+all-most a (x ∷ xs) h = all-most (pushed a x) xs (pushed-most a x h)
+
+pub none-most : acts [] .n ≤ 8
+unfolding acts
+none-most = omega arith
 
 -- a chain of pushes: the first, and one more
 pub push-first : (s : Acts) {r : Acts} (b : Bool) (x : ℕ) → r ≡ pick b (pushed s x) s → r ≡ pushedAll s (pick b (x ∷ []) [])

@@ -8,6 +8,10 @@ use Rattle.link.specs.Tests.{both}
 use Rattle.link.specs.Acts.{one}
 use Rattle.link.specs.Names.{STOP}
 
+-- the most seconds of one elapse
+abbrev pub ELAPSE-MOST : ℕ
+ELAPSE-MOST = 86400
+
 -- a timer runs and has n or fewer left; so n is at least 1
 unfoldable pub due : ℕ → ℕ → Bool
 due n left = both (leb 1 left) (leb left n)

@@ -5,7 +5,7 @@ use Prim.Native.Nat.{ℕ, _-_, _+_, _*_}
 use lib.ListN.{getD}
 use lib.Dec.{eqb, leb}
 use Rattle.link.specs.Tests.{both, pick}
-use Rattle.link.specs.Names.{no-timer, GROUP, GOES, REFUSES, ABORTS}
+use Rattle.link.specs.Names.{no-timer, LI, GROUP, GOES, REFUSES, ABORTS}
 use Rattle.link.specs.declared.moves.Move.{Move}
 
 -- a move: to a state of a module, with at most one timer stopped, an indication, a send and one timer started, in this order
@@ -27,6 +27,10 @@ send m = go (m .who) (m .to) (m .stop) (m .ind) true (m .start)
 
 abbrev pub start : ℕ → Move → Move
 start t m = go (m .who) (m .to) (m .stop) (m .ind) (m .send) t
+
+-- the link module's own move to a state
+abbrev pub liTo : ℕ → Move
+liTo k = to LI k
 
 -- "Downlink data not listed for a state: abort 3. Requests not listed: refusal 1."
 abbrev pub still : ℕ → Move

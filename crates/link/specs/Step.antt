@@ -6,7 +6,7 @@ use lib.ListN.{getD, set, replicate}
 use Rattle.link.specs.Acts.{acts, pushed, pushedAll, one}
 use Rattle.link.specs.Clock.{stopsOf}
 use Rattle.link.specs.declared.moves.Move.{Move}
-use Rattle.link.specs.Names.{timers, IND, STOP, START}
+use Rattle.link.specs.Names.{timers, IDLE, ABORT-REQUEST, IND, ABORT-IND, STOP, START}
 use Rattle.link.specs.declared.executor.Step.{Step}
 
 -- stop, indication, send, start: what is there of them, in this order
@@ -41,3 +41,11 @@ restAt li = 0 ∷ 0 ∷ 0 ∷ 0 ∷ li ∷ []
 -- everything stopped, and the stops said
 unfoldable pub stopped : ℕ → List ℕ → Step
 stopped li left = record { left = replicate timers 0; at = restAt li; acts = pushedAll (acts []) (stopsOf timers left) }
+
+-- "every abort below ends so as well": the stops and one entry, all IDLE, LI too
+abbrev pub stoppedThen : ℕ → List ℕ → Step
+stoppedThen entry left = added (stopped IDLE left) entry
+
+-- "Stop entries for all running timers, an expired one too, in watch order, abort request .., abort indication n, all IDLE, LI too"
+abbrev pub abortedAll : List ℕ → Step
+abortedAll left = added (stoppedThen ABORT-REQUEST left) ABORT-IND

@@ -6,7 +6,7 @@ use Prim.Native.Nat.{ℕ}
 use lib.Dec.{eqb, leb, ltb}
 use lib.ListN.{getD}
 use Rattle.link.specs.Tests.{both, pick}
-use Rattle.link.specs.Names.{timers, EM}
+use Rattle.link.specs.Names.{timers, DC, EC, PC, EM, LI, IDLE}
 use Rattle.link.specs.declared.watch.Watch.{Watch}
 
 -- the one rule over the table: the timer t runs at the modules' states; a number past the last never does
@@ -27,6 +27,19 @@ timerGood w at left most t = timerOk (runs w t at) (getD most t 0) (getD left t 
 unfoldable pub stateOk : List ℕ → List ℕ → ℕ → Bool
 stateOk tops at k = leb (getD at k 0) (getD tops k 0)
 
+-- all four modules are IDLE
+unfoldable pub idle : List ℕ → Bool
+idle at =
+    both (eqb (getD at DC 0) IDLE)
+    (both (eqb (getD at EC 0) IDLE) (both (eqb (getD at PC 0) IDLE) (eqb (getD at EM 0) IDLE)))
+
+-- the link module is at k
+abbrev pub liIs : List ℕ → ℕ → Bool
+liIs at k = eqb (getD at LI 0) k
+
 -- "setting not 1..86,400"
+abbrev pub secondsOk : ℕ → Bool
+secondsOk x = both (leb 1 x) (leb x 86400)
+
 unfoldable pub settingOk : List ℕ → ℕ → Bool
-settingOk s t = both (leb 1 (getD s t 0)) (leb (getD s t 0) 86400)
+settingOk s t = secondsOk (getD s t 0)

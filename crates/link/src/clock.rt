@@ -12,6 +12,9 @@ ghost use Rattle.link.specs.Tests.{below};
 ghost use Rattle.link.specs.Acts.{acts, pushedAll};
 ghost use Rattle.link.specs.Clock.{due, notDue, later, stopsOf};
 
+// The most seconds of one elapse.
+pub const ELAPSE_MOST: u32 = 86400;
+
 fn is_due(n: u32, left: u32) -> bool
     ensures { λ r. ⌜ r ≡ due n left ⌝ }
 {

@@ -5,6 +5,7 @@ use crate::acts::none;
 use crate::acts::push;
 use crate::acts::push_when;
 use crate::clock::stops;
+use crate::moves::IDLE;
 use crate::moves::Move;
 use crate::moves::NO_TIMER;
 use crate::moves::TIMERS;
@@ -15,7 +16,7 @@ ghost use lib.ListN.{getD, set};
 ghost use Rattle.link.specs.Names.{START, timers};
 ghost use Rattle.link.specs.Tests.{pick};
 ghost use Rattle.link.specs.Acts.{pushed};
-ghost use Rattle.link.specs.Step.{performed, begun, added, stopped};
+ghost use Rattle.link.specs.Step.{performed, begun, added, stopped, stoppedThen, abortedAll};
 
 // Seconds left in watch order, the modules' states, and what was done, in order.
 pub struct Step {
@@ -110,4 +111,18 @@ pub fn stop_all(left: [u32; TIMERS], li: u8) -> Step
         at: [0, 0, 0, 0, li],
         acts,
     }
+}
+
+// The stops and one entry, all IDLE.
+pub fn stop_then(left: [u32; TIMERS], entry: u8) -> Step
+    ensures { λ r. ⌜ r ≡ stoppedThen entry left ⌝ }
+{
+    add(stop_all(left, IDLE), entry)
+}
+
+// The stops, abort request, abort indication, all IDLE.
+pub fn abort_all(left: [u32; TIMERS]) -> Step
+    ensures { λ r. ⌜ r ≡ abortedAll left ⌝ }
+{
+    add(stop_then(left, ABORT_REQUEST), ABORT_IND)
 }

@@ -1,11 +1,12 @@
 // The watch rule: which timer runs at which states, over a table that a side hands in; and the check of timers against it.
+use crate::moves::IDLE;
 use crate::moves::TIMERS;
 ghost use mathlib.Core.Path.{_≡_};
 ghost use lib.Dec.{leb};
 ghost use lib.ListN.{getD};
-ghost use Rattle.link.specs.Tests.{both, below};
+ghost use Rattle.link.specs.Tests.{below};
 ghost use Rattle.link.specs.Names.{timers};
-ghost use Rattle.link.specs.Watch.{runs, timerOk, timerGood, stateOk, settingOk};
+ghost use Rattle.link.specs.Watch.{runs, timerOk, timerGood, stateOk, idle, secondsOk, settingOk};
 
 // The module of each timer, the first and the last of its states, and the last state of EM at which it runs.
 pub struct Watch {
@@ -89,8 +90,25 @@ pub fn states_ok(tops: [u8; 5], at: [u8; 5]) -> bool
     true
 }
 
-fn setting_ok(x: u32) -> bool
-    ensures { λ r. ⌜ r ≡ both (leb 1 x) (leb x 86400) ⌝ }
+// Whether all four modules are IDLE.
+pub fn all_idle(at: [u8; 5]) -> bool
+    ensures { λ r. ⌜ r ≡ idle at ⌝ }
+{
+    if at[0] != IDLE {
+        return false;
+    }
+    if at[1] != IDLE {
+        return false;
+    }
+    if at[2] != IDLE {
+        return false;
+    }
+    at[3] == IDLE
+}
+
+// Whether a setting is 1 to 86,400.
+pub fn setting_ok(x: u32) -> bool
+    ensures { λ r. ⌜ r ≡ secondsOk x ⌝ }
 {
     if x < 1 {
         return false;
@@ -98,7 +116,7 @@ fn setting_ok(x: u32) -> bool
     x <= 86400
 }
 
-// Whether every setting is 1 to 86,400.
+// The same of every setting.
 pub fn settings_ok(s: [u32; TIMERS]) -> bool
     ensures { λ r. ⌜ r ≡ below timers (settingOk s) ⌝ }
 {

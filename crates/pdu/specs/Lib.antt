@@ -3,4 +3,5 @@ pub mod ElementCount
 pub mod Contents
 pub mod DownlinkTable
 pub mod Answers
+pub mod Reasons
 pub mod Examples

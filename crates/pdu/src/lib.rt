@@ -1,5 +1,6 @@
 // Whole PDUs, both families: octets to values and values to octets.
 pub mod downlink;
+pub mod reasons;
 pub mod uplink;
 
 use crate::downlink::Air;

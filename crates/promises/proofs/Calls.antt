@@ -38,9 +38,11 @@ unread-data l s n g a e = rw (T-eq (good l) g, eq-eqb (getD (l .at) LI 0) LI-ACT
 
 pub refusals : Refusals
 refusals = record {
-  listed = λ l c. listed l (c .call) (c .octets);
-  link-stays = λ l c e. ap (λ (a : Answer). a .link) (refused-still l c e);
-  no-actions = λ l c e. ap (λ (a : Answer). a .said .acts) (refused-still l c e);
+  calls = record {
+    listed = λ l c. listed l (c .call) (c .octets);
+    link-stays = λ l c e. ap (λ (a : Answer). a .link) (refused-still l c e);
+    no-actions = λ l c e. ap (λ (a : Answer). a .said .acts) (refused-still l c e);
+  };
   no-octets = λ l c e. ap (λ (a : Answer). a .said .sent) (refused-still l c e);
   record-stays = λ call octets s o e. ap (λ (d : Done). d .link) (host-still call octets s o e);
   answer-stays = λ call octets s o e. ap (λ (d : Done). d .answer) (host-still call octets s o e);

@@ -12,8 +12,8 @@ use Rattle.pdu_parts.specs.declared.periodic.Periodic.{Periodic}
 use Rattle.pdu.specs.declared.uplink.Ground.the-variants.{PeriodicContract}
 use Rattle.pdu.specs.declared.downlink.AirPdu.{AirPdu}
 use Rattle.link.specs.Tests.{both, either, pick, below}
-use Rattle.link.specs.Names.{timers, PC, LI}
-use Rattle.link.specs.Watch.{settingOk}
+use Rattle.link.specs.Names.{timers, PC, LI, DATA-REQUEST}
+use Rattle.link.specs.Watch.{settingOk, idle, liIs}
 use Rattle.link.specs.declared.moves.Move.{Move}
 use Rattle.link.proofs.Laws.{both-left, both-right, no-true, T-eq}
 use Rattle.sides.specs.Tables.{moveOf}
@@ -22,9 +22,9 @@ use Rattle.ground_tables.specs.Names.{START-PENDING, PENDING, PC1, LI-IDLE, LI-
 use Rattle.ground_tables.specs.Moves.{contractRows, groundRows, pc2Quiet}
 use Rattle.ground_tables.specs.Intervals.{noIntervals, askedAt, holds, intervalOk, intervalsOk, agrees, answers, agreed}
 use Rattle.ground_tables.specs.declared.intervals.Intervals.{Intervals}
-use Rattle.ground_tables.specs.Tables.{idle, liIs, groundTables}
+use Rattle.ground_tables.specs.Tables.{groundTables}
 use Rattle.ground_answer.specs.Record.{good, followed, moveAt, agreedAt, went}
-use Rattle.ground_answer.specs.Answers.{START-REQUEST, DATA-REQUEST}
+use Rattle.ground_answer.specs.Answers.{START-REQUEST}
 use Rattle.ground_answer.specs.Sent.{outgoing}
 use Rattle.ground_answer.specs.Events.{airEvent, requestEvent, asksFor, secondsOf}
 use Rattle.ground_answer.specs.declared.record.Link.{Link}

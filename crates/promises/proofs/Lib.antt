@@ -1,3 +1,4 @@
+pub mod Fields
 pub mod Numbers
 pub mod Messages
 pub mod Calls
@@ -5,3 +6,7 @@ pub mod Clock
 pub mod Timers
 pub mod Desk
 pub mod KeptIntervals
+pub mod AirNumbers
+pub mod AirCalls
+pub mod AirTimers
+pub mod AirCancels

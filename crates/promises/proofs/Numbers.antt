@@ -1,20 +1,19 @@
 -- Every refusal of a call is on the page. Assumes nothing.
-use mathlib.Core.Path.{_≡_, refl, sym, ap}
-use mathlib.Core.Bool.{Bool, true, false, not, _&&_}
+use mathlib.Core.Path.{_≡_, refl}
+use mathlib.Core.Bool.{Bool, true, false, not}
 use mathlib.Core.List.{List}
 use Prim.Native.Nat.{ℕ, zero, suc, _≤_}
-use lib.Bits.{bitAnd}
 use lib.Dec.{T, eqb, leb}
 use borrow.Author.Tests.{leb-true}
 use Rattle.per.specs.Codec.{first, unless}
-use Rattle.per.specs.Formats.{field, dep, via, only, absent, when, num, mask, pair, has, maskBad, altCodec, choice}
+use Rattle.per.specs.Formats.{field, dep, via, only, absent, when, has, altCodec, choice}
 use Rattle.per.specs.Pdu as per
 use Rattle.per.specs.Pdu.{encode, readPdu, got, refused}
 use Rattle.pdu_parts.specs.declared.interval.Interval.{Interval}
 use Rattle.pdu_parts.specs.declared.interval.Interval.the-variants.{Seconds, Minutes}
 use Rattle.pdu_parts.specs.declared.periodic.Periodic.{Periodic}
-use Rattle.pdu_parts.specs.Elements.{ADDRESS, PROFILE, GROUND-VECTOR, AIR-VECTOR, WEATHER, PERIODIC-BITS, PERIODIC-CARRIED, REPORT-BITS, DEMAND-CARRIED, EVENT-BITS, EVENT-CARRIED}
-use Rattle.pdu_parts.specs.Interval.{intervalC, isFive, sentC, sentBits, modulus, Moduli, moduliC, periodicBits, periodicRest, fiveMinutes}
+use Rattle.pdu_parts.specs.Elements.{PERIODIC-BITS, PERIODIC-CARRIED, REPORT-BITS, DEMAND-CARRIED, EVENT-BITS, EVENT-CARRIED}
+use Rattle.pdu_parts.specs.Interval.{intervalC, isFive, sentC, sentBits, moduliC, periodicBits, periodicRest, fiveMinutes}
 use Rattle.pdu_parts.specs.Periodic.{periodicC}
 use Rattle.pdu_parts.proofs.Intervals.{interval-norm, sent-not-five}
 use Rattle.pdu.specs.declared.uplink.Ground.{Ground}
@@ -22,16 +21,15 @@ use Rattle.pdu.specs.declared.uplink.Ground.the-variants.{CancelAll, CancelCont
 use Rattle.pdu.specs.declared.downlink.AirPdu.{AirPdu}
 use Rattle.pdu.specs.UplinkTable.{groundAlt, groundC}
 use Rattle.pdu.specs.DownlinkTable.{airC}
-use Rattle.link.specs.Tests.{pick, either, below}
-use Rattle.link.specs.Names.{timers, GOES}
+use Rattle.link.specs.Tests.{below}
+use Rattle.link.specs.Names.{timers, GOES, DATA-REQUEST, ABORT-REQUEST, ABORT-IND, PEER-ABORT-IND}
 use Rattle.link.specs.Clock.{notDue}
-use Rattle.link.proofs.Laws.{no-true}
+use Rattle.link.specs.Watch.{idle, liIs}
 use Rattle.sides.specs.Tables.{member}
-use Rattle.ground_answer.specs.Answers.{START-REQUEST, DATA-REQUEST, ABORT-REQUEST, ABORT-IND, PEER-ABORT-IND, refusal, allowed}
+use Rattle.ground_answer.specs.Answers.{START-REQUEST, refusal, allowed}
 use Rattle.ground_answer.specs.Record.{good, moveAt, went}
 use Rattle.ground_answer.specs.Events.{airEvent, cancel-all, requestEvent}
 use Rattle.ground_tables.specs.Names.{LI-IDLE, LI-START, LI-ACTIVE, LI-END}
-use Rattle.ground_tables.specs.Tables.{idle, liIs}
 use Rattle.ground_answer.specs.Aborts.{aborted, closed, closedWhen}
 use Rattle.ground_answer.specs.Clock.{waited, elapsed}
 use Rattle.ground_answer.specs.Sent.{letterOf, outgoing}
@@ -44,67 +42,35 @@ use Rattle.ground.specs.Runs.{answered}
 use Rattle.ground.specs.declared.call.Call.{Call}
 use Rattle.ground.specs.declared.call.Call.the-variants.{Request, UserAbort, Elapse, StartConfirm, StartRejected, Data, EndConfirm, PeerAbort, AirAbort, Down}
 use Rattle.promises.specs.Calls.{numbers}
+use Rattle.promises.proofs.Fields.{On, Held, Given, on, ok, on-pick, in-list, on-first, a-number, a-mask, a-full-mask, fields}
 
--- none, or a number of the page
-record On (n : ℕ) : Type 0 where
-  is : T (either (eqb n 0) (member n numbers))
+-- ---- the fields of a ground PDU: 5, 10 and 15
+five : On numbers 5
+five = on tt
 
-on : {n : ℕ} → T (either (eqb n 0) (member n numbers)) → On n
-on t = record { is = t }
+ten : On numbers 10
+ten = on tt
 
-on-first : {m n : ℕ} → On m → On n → On (first m n)
-on-first {m} {n} a b = go m a
-  where
-    go : (k : ℕ) → On k → On (first k n)
-    go zero p = b
-    go (suc k) p = p
-
-on-unless : (b : Bool) (n : ℕ) → On n → On (unless b n)
-on-unless true n a = on tt
-on-unless false n a = a
-
--- ---- the fields of a ground PDU
-
-on-num : (lo hi n : ℕ) → On (num lo hi .chk n)
-unfolding field
-on-num lo hi n = on-first (on-unless (leb lo n) 5 (on tt)) (on-unless (leb n hi) 5 (on tt))
-
-on-mask : (all carried : ℕ) (need : Bool) (v : ℕ) → On (mask all carried need .chk v)
-unfolding only field
-on-mask all carried need v = on-first (on-num 0 all v) (on-first (on-unless (eqb (bitAnd v carried) v) 10 (on tt)) (on-unless (not (need && eqb v 0)) 15 (on tt)))
-
-on-interval : (i : Interval) → On (intervalC .chk i)
+on-interval : (i : Interval) → On numbers (intervalC .chk i)
 unfolding intervalC choice altCodec via dep field
-on-interval (Seconds n) = on-num 1 59 n
-on-interval (Minutes n) = on-num 1 120 n
+on-interval (Seconds n) = a-number 1 59 five .each n
+on-interval (Minutes n) = a-number 1 120 five .each n
 
-on-modulus : (w v n : ℕ) → On (modulus w v .chk n)
-unfolding when absent
-on-modulus w v n = go (has w v)
-  where
-    go : (b : Bool) → On (when b 0 (num 1 255) .chk n)
-    go true = on-num 1 255 n
-    go false = on tt
-
-on-moduli : (v : ℕ) (m : Moduli) → On (moduliC v .chk m)
-unfolding dep
-on-moduli v m =
-    on-first (on-modulus ADDRESS v (m .0))
-    (on-first (on-modulus PROFILE v (m .1 .0))
-    (on-first (on-modulus GROUND-VECTOR v (m .1 .1 .0)) (on-first (on-modulus AIR-VECTOR v (m .1 .1 .1 .0)) (on-modulus WEATHER v (m .1 .1 .1 .1)))))
+moduli : (v : ℕ) → Held numbers (moduliC v)
+moduli v = search (fields, five) depth 12
 
 -- an interval that is sent is not the default, so 11 is no refusal of a write
-on-sent : (i : Interval) (v e : ℕ) → v ≡ sentBits (isFive i) e → e ≤ 127 → On (when (has 128 v) fiveMinutes sentC .chk i)
+on-sent : (i : Interval) (v e : ℕ) → v ≡ sentBits (isFive i) e → e ≤ 127 → On numbers (when (has 128 v) fiveMinutes sentC .chk i)
 unfolding when absent sentC only
 on-sent i v e q l = go (has 128 v) refl
   where
-    go : (b : Bool) → has 128 v ≡ b → On (when b fiveMinutes sentC .chk i)
+    go : (b : Bool) → has 128 v ≡ b → On numbers (when b fiveMinutes sentC .chk i)
     go false h = on tt
     go true h =
-        let five : isFive i ≡ false = sent-not-five i (isFive i) (has 128 v) v e refl q refl l h in
-        on-first (on-interval i) (rw (interval-norm i, five) (on tt))
+        let sent : isFive i ≡ false = sent-not-five i (isFive i) (has 128 v) v e refl q refl l h in
+        on-first (on-interval i) (rw (interval-norm i, sent) (on tt))
 
-on-periodic : (a : Periodic) → On (periodicC .chk a)
+on-periodic : (a : Periodic) → On numbers (periodicC .chk a)
 unfolding periodicC via dep only field
 on-periodic a = go (leb (a .elements) 127) refl
   where
@@ -114,43 +80,35 @@ on-periodic a = go (leb (a .elements) 127) refl
     rest : ℕ
     rest = dep periodicBits periodicRest .chk (v, (a .interval, (a .address, (a .profile, (a .ground, (a .air, a .weather))))))
 
-    go : (b : Bool) → leb (a .elements) 127 ≡ b → On (first (unless b 5) rest)
+    go : (b : Bool) → leb (a .elements) 127 ≡ b → On numbers (first (unless b 5) rest)
     go false h = on tt
     go true h =
-        on-first (on-mask PERIODIC-BITS PERIODIC-CARRIED false v)
-        (on-first (on-sent (a .interval) v (a .elements) refl (leb-true (a .elements) 127 h)) (on-moduli v (a .address, (a .profile, (a .ground, (a .air, a .weather))))))
+        on-first (a-mask PERIODIC-BITS PERIODIC-CARRIED five ten .each v)
+        (on-first (on-sent (a .interval) v (a .elements) refl (leb-true (a .elements) 127 h)) (moduli v .each (a .address, (a .profile, (a .ground, (a .air, a .weather))))))
 
-on-ground : (g : Ground) → On (groundC .chk g)
+on-ground : (g : Ground) → On numbers (groundC .chk g)
 unfolding groundC groundAlt choice altCodec via dep field absent
 on-ground CancelAll = on tt
-on-ground (CancelContract n) = on-num 0 1 n
+on-ground (CancelContract n) = a-number 0 1 five .each n
 on-ground CancelEmergencyAck = on tt
-on-ground (DemandContract v) = on-mask REPORT-BITS DEMAND-CARRIED false v
-on-ground (EventContract v) = on-mask EVENT-BITS EVENT-CARRIED true v
+on-ground (DemandContract v) = a-mask REPORT-BITS DEMAND-CARRIED five ten .each v
+on-ground (EventContract v) = a-full-mask EVENT-BITS EVENT-CARRIED five ten (on tt) .each v
 on-ground (ModifyEmergency i) = on-interval i
 on-ground (PeriodicContract a) = on-periodic a
-on-ground (Abort n) = on-num 0 7 n
+on-ground (Abort n) = a-number 0 7 five .each n
 
-on-outgoing : (g : Ground) → On (outgoing g .refusal)
+on-outgoing : (g : Ground) → On numbers (outgoing g .refusal)
 unfolding outgoing letterOf
 on-outgoing g = go (groundC .chk g) (on-ground g)
   where
-    go : (n : ℕ) → On n → On (letterOf n (encode groundC g) .refusal)
+    go : (n : ℕ) → On numbers n → On numbers (letterOf n (encode groundC g) .refusal)
     go zero h = on tt
     go (suc n) h = h
 
 -- ---- the calls
 
-record OnA (a : Answer) : Type 0 where
-  is : On (a .said .refusal)
-
--- accepted, or refused with a number that is seen
-ok : {a : Answer} → T (either (eqb (a .said .refusal) 0) (member (a .said .refusal) numbers)) → OnA a
-ok t = record { is = on t }
-
-on-pick : (b : Bool) {x y : Answer} → OnA x → OnA y → OnA (pick b x y)
-on-pick true p q = p
-on-pick false p q = q
+abbrev OnA : Answer → Type 0
+OnA a = Given numbers (λ (x : Answer). x .said .refusal) a
 
 -- a call that may be made or not, on a record that is good or not
 on-allowed : (l : Link) (may : Bool) (number : ℕ) {a : Answer} → OnA (refusal l number) → OnA a → OnA (allowed l may number a)
@@ -189,8 +147,4 @@ on-call l AirAbort s = on-closed l (not (liIs (l .at) LI-IDLE)) 2 ABORT-IND (rea
 on-call l Down s = on-closed l (not (liIs (l .at) LI-IDLE)) 2 ABORT-IND 0 (ok tt)
 
 pub listed : (l : Link) (c : Call) (s : List ℕ) → eqb (answered l c s .said .refusal) 0 ≡ false → T (member (answered l c s .said .refusal) numbers)
-listed l c s e = go (eqb (answered l c s .said .refusal) 0) e (on-call l c s .is .is)
-  where
-    go : (b : Bool) → b ≡ false → T (either b (member (answered l c s .said .refusal) numbers)) → T (member (answered l c s .said .refusal) numbers)
-    go true h t = absurd (no-true h)
-    go false h t = t
+listed l c s = in-list (on-call l c s .is)

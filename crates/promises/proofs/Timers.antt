@@ -1,6 +1,5 @@
 -- Demand 3, from the theorems of `ground`. Assumes nothing.
 use mathlib.Core.Path.{_≡_}
-use mathlib.Core.Bool.{true, false}
 use mathlib.Core.List.{List}
 use Prim.Native.Nat.{ℕ, _≤_, _<_}
 use lib.Dec.{T, leb}
@@ -8,14 +7,13 @@ use lib.ListN.{getD}
 use borrow.Author.Tests.{le-leb, eq-eqb}
 use Rattle.link.specs.Names.{timers, EC}
 use Rattle.link.specs.Tests.{both, below}
-use Rattle.link.specs.Watch.{runs, settingOk}
+use Rattle.link.specs.Watch.{settingOk}
 use Rattle.link.proofs.Laws.{both-T, below-all, eq-T}
 use Rattle.ground_tables.specs.Names.{ACTIVE, EC1, EC2}
-use Rattle.ground_tables.specs.Watch.{groundWatch}
-use Rattle.ground_tables.specs.Tables.{groundTables}
-use Rattle.ground.specs.Runs.{Made}
+use Rattle.ground.specs.Runs.{Made, ground}
 use Rattle.ground.proofs.Promises.{loads-most, intervals-held}
 use Rattle.ground.proofs.Demand3.{demand3-first, demand3-second, event-contract-no-clock}
+use Rattle.promises.specs.Sides.{Named}
 use Rattle.promises.specs.Timers.{Settings, played, ceiling, Timers}
 
 good-settings : (s : List ℕ) → Settings s → T (below timers (settingOk s))
@@ -28,23 +26,20 @@ module _ (s : List ℕ) (h : Settings s) where
   abbrev ok : T (below timers (settingOk s))
   ok = good-settings s h
 
-  running : (cs : List Made) (t : ℕ) → t < timers → runs groundWatch t (played s cs .at) ≡ true → (1 ≤ getD (played s cs .left) t 0) × (getD (played s cs .left) t 0 ≤ ceiling s (played s cs) t)
-  unfolding groundTables
-  running cs t lt on = let w = demand3-first s (h .nine) ok cs t lt .runs-left on in (w .0, rw (loads-most s (h .nine) ok cs t) at (w .1))
-
-  resting : (cs : List Made) (t : ℕ) → t < timers → runs groundWatch t (played s cs .at) ≡ false → getD (played s cs .left) t 0 ≡ 0
-  unfolding groundTables
-  resting cs t lt off = demand3-first s (h .nine) ok cs t lt .else-none off
+  no-more : (cs : List Made) (t : ℕ) → t < timers → Named ground (played s cs) t → getD (played s cs .left) t 0 ≤ ceiling s (played s cs) t
+  no-more cs t lt on = rw (loads-most s (h .nine) ok cs t) at (demand3-first s (h .nine) ok cs t lt .runs-left on .1)
 
   silent-event : (cs : List Made) → getD (played s cs .at) EC 0 ≡ ACTIVE → (getD (played s cs .left) EC1 0 ≡ 0) × (getD (played s cs .left) EC2 0 ≡ 0)
   silent-event cs on = event-contract-no-clock s (h .nine) ok cs (eq-eqb _ ACTIVE on)
 
 pub timers-hold : Timers
 timers-hold = record {
-  at-least-one = λ s h cs t lt on. running s h cs t lt on .0;
-  no-more = λ s h cs t lt on. running s h cs t lt on .1;
-  no-other = resting;
-  expires = λ s h. demand3-second s (h .nine) (good-settings s h);
+  watched = λ s h. record {
+    at-least-one = λ cs t lt on. demand3-first s (h .nine) (good-settings s h) cs t lt .runs-left on .0;
+    no-more = no-more s h;
+    no-other = λ cs t lt off. demand3-first s (h .nine) (good-settings s h) cs t lt .else-none off;
+  };
+  expires = λ s h octets before t lt k one is cs u n most reach. demand3-second s (h .nine) (good-settings s h) before t lt k one is cs u n most reach octets;
   intervals = λ s h. intervals-held s (h .nine) (good-settings s h);
   no-clock = silent-event;
 }

@@ -9,22 +9,18 @@ use Rattle.per.specs.Pdu.{readPdu, refused}
 use Rattle.pdu.specs.DownlinkTable.{airC}
 use Rattle.link.specs.Names.{timers, LI}
 use Rattle.link.specs.Acts.{acts}
-use Rattle.sides.specs.Tables.{member}
 use Rattle.ground_tables.specs.Names.{LI-START, LI-ACTIVE}
 use Rattle.ground_answer.specs.Record.{good}
-use Rattle.ground_answer.specs.Reasons.{INVALID-PDU, TIMER-EXPIRY}
+use Rattle.pdu.specs.Reasons.{INVALID-PDU, TIMER-EXPIRY}
 use Rattle.ground_answer.specs.declared.record.Link.{Link}
 use Rattle.ground_answer.specs.Sent.{sent}
 use Rattle.ground_answer.specs.Aborts.{aborted}
-use Rattle.ground.specs.Runs.{answered, Made, reply}
+use Rattle.ground.specs.Runs.{answered, Made, reply, ground}
 use Rattle.ground.specs.declared.call.Call.{Call}
 use Rattle.ground.specs.declared.call.Call.the-variants.{Elapse, StartConfirm, Data}
 use Rattle.host_record.specs.Hosting.{hosted}
+use Rattle.promises.specs.Sides.{Refused, Refuses}
 use Rattle.refusals.specs.Refusals.{NOT-PERMITTED, CANNOT-OCCUR, ELAPSE-OVER, OUT-OF-RANGE, NOT-CARRIED, NO-ELEMENT, BAD-RECORD}
-
--- the call is refused
-abbrev pub Refused : Link → Made → Type 0
-Refused l c = eqb (reply l c .said .refusal) 0 ≡ false
 
 -- 01, "Refusal numbers", those of calls on a link: "29, 4, 1 or 2, then fields", of which a ground PDU's give 5, 10 and 15
 abbrev pub numbers : List ℕ
@@ -32,12 +28,9 @@ numbers = NOT-PERMITTED ∷ CANNOT-OCCUR ∷ ELAPSE-OVER ∷ OUT-OF-RANGE ∷ NO
 
 -- Demand 1: "Any octets, any call, any state: an answer."
 pub record Refusals : Type 0 where
-  -- "Public calls refuse by the numbers on the requirements page"
-  pub listed : (l : Link) (c : Made) → Refused l c → T (member (reply l c .said .refusal) numbers)
-  -- "and a refused call leaves the link .. as before it": nor is there an action or a PDU to send
-  pub link-stays : (l : Link) (c : Made) → Refused l c → reply l c .link ≡ l
-  pub no-actions : (l : Link) (c : Made) → Refused l c → reply l c .said .acts ≡ acts []
-  pub no-octets : (l : Link) (c : Made) → Refused l c → reply l c .said .sent ≡ sent []
+  -- "Public calls refuse by the numbers on the requirements page, and a refused call leaves the link .. as before it": nor is there an action or a PDU to send
+  pub calls : Refuses ground numbers
+  pub no-octets : (l : Link) (c : Made) → Refused ground l c → reply l c .said .sent ≡ sent []
   -- "and every lent buffer": the record that a host lends, and its buffer for the answer
   pub record-stays : (call : Call) (octets s o : List ℕ) → eqb (hosted call octets s o .number) 0 ≡ false → hosted call octets s o .link ≡ s
   pub answer-stays : (call : Call) (octets s o : List ℕ) → eqb (hosted call octets s o .number) 0 ≡ false → hosted call octets s o .answer ≡ o

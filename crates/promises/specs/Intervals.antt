@@ -9,8 +9,8 @@ use Rattle.pdu_parts.specs.declared.periodic.Periodic.{Periodic}
 use Rattle.pdu.specs.declared.uplink.Ground.the-variants.{PeriodicContract}
 use Rattle.pdu.specs.declared.downlink.AirPdu.{AirPdu}
 use Rattle.pdu.specs.DownlinkTable.{airC}
-use Rattle.link.specs.Names.{PC, LI}
-use Rattle.ground_tables.specs.Names.{IDLE, PENDING, LI-START, LI-ACTIVE, of, report, negative}
+use Rattle.link.specs.Names.{PC, LI, IDLE, of}
+use Rattle.ground_tables.specs.Names.{PENDING, LI-START, LI-ACTIVE, report, negative}
 use Rattle.ground_tables.specs.Intervals.{noIntervals, askedAt, holds, agrees}
 use Rattle.ground_answer.specs.Record.{good}
 use Rattle.ground_answer.specs.Events.{airEvent, secondsOf}

@@ -1,23 +1,21 @@
 -- Demand 3, over every sequence of calls from a fresh link with good settings. The watch table is 01's, `groundWatch`; "running" is to have seconds left.
 use mathlib.Core.Path.{_≡_}
-use mathlib.Core.Bool.{true, false}
 use mathlib.Core.List.{List}
 use Prim.Native.Nat.{ℕ, _+_, _≤_, _<_}
 use lib.Dec.{T, eqb}
 use lib.ListN.{length, getD}
-use Rattle.link.specs.Names.{timers, EC, PC, EM}
+use Rattle.link.specs.Names.{timers, EC, PC, EM, IDLE}
 use Rattle.link.specs.Tests.{pick}
-use Rattle.link.specs.Watch.{runs}
 use Rattle.sides.specs.Runs.{after, total, Untouched}
-use Rattle.ground_tables.specs.Names.{IDLE, ACTIVE, EC1, EC2, PC2}
-use Rattle.ground_tables.specs.Watch.{groundWatch}
+use Rattle.ground_tables.specs.Names.{ACTIVE, EC1, EC2, PC2}
 use Rattle.ground_tables.specs.Intervals.{intervalsOk}
 use Rattle.ground_answer.specs.Record.{fresh}
 use Rattle.ground_answer.specs.Aborts.{aborted}
-use Rattle.ground_answer.specs.Reasons.{TIMER-EXPIRY}
+use Rattle.pdu.specs.Reasons.{TIMER-EXPIRY}
 use Rattle.ground_answer.specs.declared.record.Link.{Link}
 use Rattle.ground.specs.Runs.{answered, Made, ground}
 use Rattle.ground.specs.declared.call.Call.the-variants.{Elapse}
+use Rattle.promises.specs.Sides.{Watches, Expires}
 
 -- nine settings of 1..86,400
 pub record Settings (s : List ℕ) : Type 0 where
@@ -35,15 +33,9 @@ ceiling s l t = getD s t 0 + pick (eqb t PC2) (l .interval .force) 0
 
 pub record Timers : Type 0 where
   -- "the running timers are exactly those the watch table names for the present states, each with at least one second left and no more than its setting"
-  pub at-least-one : (s : List ℕ) → Settings s → (cs : List Made) (t : ℕ) → t < timers → runs groundWatch t (played s cs .at) ≡ true → 1 ≤ getD (played s cs .left) t 0
-  pub no-more : (s : List ℕ) → Settings s → (cs : List Made) (t : ℕ) → t < timers → runs groundWatch t (played s cs .at) ≡ true
-      → getD (played s cs .left) t 0 ≤ ceiling s (played s cs) t
-  pub no-other : (s : List ℕ) → Settings s → (cs : List Made) (t : ℕ) → t < timers → runs groundWatch t (played s cs .at) ≡ false → getD (played s cs .left) t 0 ≡ 0
-  -- "If a timer has k seconds left, and no call starts or stops it before its accepted elapsed seconds first total k or more, then the call that gets there
-  -- aborts the link": the calls cs come first, and then the elapse of n seconds that gets there
-  pub expires : (s : List ℕ) → Settings s → (before : List Made) (t : ℕ) → t < timers → (k : ℕ) → 1 ≤ k → getD (played s before .left) t 0 ≡ k
-      → (cs : List Made) → Untouched ground t (played s before) cs → (n : ℕ) → n ≤ 86400 → k ≤ total ground (played s before) cs + n → (octets : List ℕ)
-      → answered (after ground (played s before) cs) (Elapse n) octets ≡ aborted (after ground (played s before) cs) TIMER-EXPIRY
+  pub watched : (s : List ℕ) → Settings s → Watches ground (fresh s) (ceiling s)
+  -- "If a timer has k seconds left .. then the call that gets there aborts the link."
+  pub expires : (s : List ℕ) → Settings s → (octets : List ℕ) → Expires ground (fresh s) (λ n. record { call = Elapse n; octets = octets })
   -- no "interval missing from its state, foreign to it, or over 7,200" comes about
   pub intervals : (s : List ℕ) → Settings s → (cs : List Made) → T (intervalsOk (getD (played s cs .at) PC 0) (played s cs .interval))
   -- "An event contract in force has no clock"

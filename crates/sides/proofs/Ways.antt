@@ -1,15 +1,17 @@
--- The action lists of parts: none is cut where there is room. Assumes nothing.
+-- The action lists of parts: none is cut where there is room; and the moves of a call that begins with LI's own. Assumes nothing.
 use mathlib.Core.Bool.{true, false}
 use mathlib.Core.Path.{_≡_, refl, sym, ap, _∙_}
 use mathlib.Core.List.{List, [], _∷_, _++_}
 use Prim.Native.Nat.{ℕ, _+_, _≤_, _<_}
 use native.Mathlib.Omega.{arith}
-use lib.Dec.{T, eqb}
+use lib.Dec.{T, eqb, lit≤}
 use lib.ListN.{length, getD, set, length-append}
-use Rattle.link.specs.Names.{timers}
+use lib.Seq.{getD-set-same}
+use Rattle.link.specs.Names.{timers, LI}
+use Rattle.link.specs.Moves.{liTo}
 use Rattle.link.specs.Acts.{acts, pushedAll}
 use Rattle.link.specs.Clock.{stopsOf}
-use Rattle.link.specs.Step.{actsOf, performed, begun, stopped}
+use Rattle.link.specs.Step.{actsOf, performed, begun, added, stopped, stoppedThen, abortedAll}
 use Rattle.link.specs.declared.acts.Acts.{Acts}
 use Rattle.link.specs.declared.moves.Move.{Move}
 use Rattle.link.specs.declared.executor.Step.{Step}
@@ -18,7 +20,7 @@ use Rattle.sides.specs.Tables.{Tables, moveOf, balanced, allFit}
 use Rattle.sides.specs.Runs.{View, Sound, Part, stepped, saidOf, performedAll, Loads, Fit}
 use Rattle.sides.proofs.Fits.{moves-fit, goes-balanced}
 use Rattle.sides.proofs.Keeps.{good-states, stepped-sound}
-use Rattle.sides.proofs.Stops.{stops-whole}
+use Rattle.sides.proofs.Stops.{short, stops-whole}
 
 all-said : (s : Step) (ps : List Part) → performedAll s ps .acts ≡ pushedAll (s .acts) (saidOf ps)
 unfolding performed pushedAll
@@ -40,6 +42,30 @@ stopped-said b test v s li ps more h =
     ap (λ (a : Acts). pushedAll a more) (all-said (stopped li (v .left)) ps)
     ∙ sym (pushed-append (pushedAll (acts []) (stopsOf timers (v .left))) (saidOf ps) more)
     ∙ stops-whole b test v s (saidOf ps ++ more) (omega (arith, length-append (saidOf ps) more))
+
+-- of the abort rule
+module _ (b : Tables) (test : T (allFit b)) (v : View) (s : Sound b v) where
+  pub then-said : (entry : ℕ) → stoppedThen entry (v .left) .acts ≡ acts (stopsOf timers (v .left) ++ (entry ∷ []))
+  unfolding added pushedAll
+  then-said entry = stopped-said b test v s 0 [] (entry ∷ []) (lit≤ tt)
+
+  pub abort-said : abortedAll (v .left) .acts ≡ acts (stopsOf timers (v .left) ++ (4 ∷ 6 ∷ []))
+  unfolding added pushedAll
+  abort-said = stopped-said b test v s 0 [] (4 ∷ 6 ∷ []) (lit≤ tt)
+
+-- LI at k
+pub li-set : (at : List ℕ) (k : ℕ) → length at ≡ 5 → getD (set at LI k) LI 0 ≡ k
+li-set at k n = getD-set-same at LI k 0 (omega arith)
+
+-- LI's own move to a state says nothing, and any move after it has room
+pub li-silent : (k : ℕ) → length (actsOf (liTo k) 0) ≡ 0
+unfolding actsOf
+li-silent k = refl
+
+pub went-room : (most more : List ℕ) (k : ℕ) (m : Move) (entry : ℕ)
+    → length (saidOf (record { move = liTo k; send = 0; most = most } ∷ record { move = m; send = entry; most = more } ∷ [])) + 0 ≤ 8
+went-room most more k m entry =
+    omega (arith, li-silent k, short m entry, length-append (actsOf (liTo k) 0) (actsOf m entry ++ []), length-append (actsOf m entry) [])
 
 -- the link module's own move first, and then the table's move on an event
 module _ (b : Tables) (test : T (allFit b)) (v : View) (s : Sound b v) (loads : Loads (v .most)) (li : Move) (own : T (balanced b (v .at) li)) where

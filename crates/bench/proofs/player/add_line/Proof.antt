@@ -1,4 +1,4 @@
-use Rattle.bench.proofs.Steps.{added-stands}
+use Rattle.script.proofs.Steps.{added-stands}
 use borrow.Author.Needs.{needs}
 use Rattle.bench.proofs.player.add_line.Statement.{statement}
 use Rattle.bench.proofs.player.add_line.Tie as tie

@@ -1,19 +1,21 @@
 use borrow.Author.Needs.{needs}
 use mathlib.Core.Path.{_≡_, refl, _∙_}
 use native.Mathlib.Omega.{arith}
-use mathlib.Core.Bool.{true}
+use mathlib.Core.Bool.{Bool, true}
+use Prim.Native.Nat.{ℕ}
 use mathlib.Core.List.{[]}
 use borrow.Author.Tests.{not-true, not-false}
 use lib.ListN.{length}
 use Rattle.text_lines.specs.Pulls.{left, leftOf}
-use Rattle.bench.specs.declared.player.Played.{Played}
-use Rattle.bench.specs.Playing.{Plays}
-use Rattle.bench.proofs.Playing.{plays-none, plays-failed, plays-line, well-found, shown-line}
+use Rattle.script.specs.Playing.{Plays}
+use Rattle.bench.specs.Replies.{groundBench}
+use Rattle.bench.specs.declared.reply.Setup.{Setup}
+use Rattle.script.proofs.Playing.{plays-none, plays-failed, plays-line, well-found, shown-line}
 use Rattle.bench.proofs.player.run.Statement.{statement}
 use Rattle.bench.proofs.player.run.Tie as tie
 
 abbrev Inv-loop : tie.InvT-loop
-Inv-loop chunk₀ line₀ out₀ e₀ input₀ turns₀ chunk line out e input turns = (length chunk ≡ length chunk₀) × (length line ≡ length line₀) × (length out ≡ length out₀) × ((r : Played) → Plays (length line₀) (leftOf input chunk) (e .number) (e .setup) r → Plays (length line₀) (left true []) (e₀ .number) (e₀ .setup) r)
+Inv-loop chunk₀ line₀ out₀ e₀ input₀ turns₀ chunk line out e input turns = (length chunk ≡ length chunk₀) × (length line ≡ length line₀) × (length out ≡ length out₀) × ((n : ℕ) (b : Setup) (f : Bool) → Plays groundBench (length line₀) (leftOf input chunk) (e .number) (e .setup) n b f → Plays groundBench (length line₀) (left true []) (e₀ .number) (e₀ .setup) n b f)
 
 abbrev μ-loop : tie.MeasureT-loop
 μ-loop chunk₀ line₀ out₀ e₀ input₀ turns₀ chunk line out e input turns = turns
@@ -22,7 +24,7 @@ start-requires : tie.Need-start-requires Inv-loop μ-loop
 start-requires c κs = search needs
 
 loop-holds : tie.Need-loop-holds Inv-loop μ-loop
-loop-holds c = (refl, refl, refl, λ r d. rw (c .start .ensures) at d)
+loop-holds c = (refl, refl, refl, λ n b f d. rw (c .start .ensures) at d)
 
 pull-line-requires : tie.Need-pull-line-requires Inv-loop μ-loop
 pull-line-requires c κs = search needs
@@ -40,7 +42,7 @@ returns : tie.Need-returns Inv-loop μ-loop
 returns c =
     let v = c .before .before .before .before .before .before .before .before .before .before .before .before .loop .inv in
     let l = c .before .before .before .before .before .before .before .pull-line .ensures in
-    v .3 _ (plays-none (not-true _ (c .if1 .taken)) (λ well. rw (v .1) at (l .line-is well)))
+    v .3 _ _ _ (plays-none groundBench (not-true _ (c .if1 .taken)) (λ well. rw (v .1) at (l .line-is well)))
 
 shown-requires : tie.Need-shown-requires Inv-loop μ-loop
 shown-requires c κs = search needs
@@ -70,7 +72,7 @@ loop-again c =
       k .1 .1 .0 ∙ v .0,
       k .1 .1 .1 .0 ∙ v .1,
       c .before .before .add-line .kept .1 .1 .0 ∙ v .2,
-      λ r p. v .3 r (plays-line (rw (v .1, there) at (l .line-is (well-found (l .none-failed) there))) (d .number-is) (rw (shown-line (c .before .before .before .before .before .shown .ensures)) at (d .setup-is)) p),
+      λ n b f p. v .3 n b f (plays-line groundBench (rw (v .1, there) at (l .line-is (well-found (l .none-failed) there))) (d .number-is) (rw (shown-line (c .before .before .before .before .before .shown .ensures)) at (d .box-is)) p),
     )
 
 same-length-4 : tie.Need-same-length-4 Inv-loop μ-loop
@@ -83,7 +85,7 @@ same-length-6 : tie.Need-same-length-6 Inv-loop μ-loop
 same-length-6 c = c .before .loop .inv .2
 
 returns-2 : tie.Need-returns-2 Inv-loop μ-loop
-returns-2 c = c .before .loop .inv .3 _ plays-failed
+returns-2 c = c .before .loop .inv .3 _ _ _ (plays-failed groundBench)
 
 pub run-spec : {M : Type 1} → statement M
 run-spec =

@@ -7,15 +7,17 @@ use lib.ListN.{length, take, length-take}
 use lib.Seq.{length-take-le}
 use denote.Ref.{now}
 use Rattle.text.proofs.Laws.{take-least}
-use Rattle.bench_line.specs.Lines.{parsedIn}
-use Rattle.bench_line.proofs.LineCalls.{with-room}
-use Rattle.bench.specs.Replies.{answerReply, playReply}
+use Rattle.bench_line.specs.Lines.{parsedIn, groundScript}
+use Rattle.script.specs.Replies.{playReply}
+use Rattle.script.proofs.Heard.{with-room}
+use Rattle.script.proofs.Rooms.{room-of}
+use Rattle.bench.specs.Replies.{answerReply}
 use borrow.Author.Needs.{needs}
 use Rattle.bench.proofs.reply.play.Statement.{statement}
 use Rattle.bench.proofs.reply.play.Tie as tie
 
-blank-requires : tie.Need-blank-requires
-blank-requires c κs = search needs
+line-room-requires : tie.Need-line-room-requires
+line-room-requires c κs = search needs
 
 slice-aggregate-parse-line : tie.Need-slice-aggregate-parse-line
 slice-aggregate-parse-line c = search needs
@@ -40,7 +42,7 @@ unfolding playReply parsedIn
 returns c =
     let k = c .before .before .before .before .before .before .before in
     let line = now (k .before .before .before .before .before .args .line) in
-    let is = with-room (length (k .before .before .blank .result)) line (omega (arith, k .before .before .blank .ensures)) in
+    let is = with-room groundScript (length (k .before .before .line-room .result)) line (omega (arith, room-of 2048 (k .before .before .line-room .ensures))) in
     rw (← is, ← k .parse-line .ensures, c .before .before .before .before .enum-told .given .1) (c .before .before .refuse-line .ensures)
 
 least-requires : tie.Need-least-requires
@@ -72,22 +74,23 @@ unfolding playReply parsedIn answerReply
 returns-2 c =
     let a = c .before .before .before .before .before .before .before in
     let l = a .before .before in
-    let t = l .before .before in
+    let t = l .before .before .before in
     let k = t .before .before .before in
     let line = now (k .before .before .before .before .before .args .line) in
-    let blank = k .before .before .blank in
+    let blank = k .before .before .line-room in
+    let long = room-of 2048 (blank .ensures) in
     let octets = k .parse-line .last .1 .0 in
-    let is = with-room (length (blank .result)) line (omega (arith, blank .ensures)) in
-    let whole = k .parse-line .kept .1 .0 ∙ sym (blank .ensures) in
+    let is = with-room groundScript (length (blank .result)) line (omega arith) in
+    let whole = k .parse-line .kept .1 .0 ∙ long in
     let short : length (take (l .least .result) octets) ≤ 2048 = omega (arith, l .least .ensures .within, length-take (l .least .result) octets, min-le-left (l .least .result) (length octets)) in
     rw (← is, ← k .parse-line .ensures, t .told .given .1, ← take-least (t .told .given .0 .1 .0) 2048 octets whole, ← l .least .ensures .is, ← a .answer-lent .ensures)
-    (record { bench-is = refl; text-is = c .before .before .put-answer .ensures .text-is; short = le-trans (c .before .before .put-answer .ensures .short short) (lit≤ tt) })
+    (record { box-is = refl; text-is = c .before .before .put-answer .ensures .text-is; short = le-trans (c .before .before .put-answer .ensures .short short) (lit≤ tt) })
 
 pub play-spec : {M : Type 1} → statement M
 play-spec =
     tie.close
     (tie.spec
-    blank-requires
+    line-room-requires
     slice-aggregate-parse-line
     parse-line-requires
     enum-known-told

@@ -14,7 +14,7 @@ same-length : tie.Need-same-length
 same-length c = search needs
 
 returns : tie.Need-returns
-returns c = record { bench-is = refl; text-is = c .before .before .put-refused .ensures; short = le-trans (refused-length _) (lit≤ tt) }
+returns c = record { box-is = refl; text-is = c .before .before .put-refused .ensures; short = le-trans (refused-length _) (lit≤ tt) }
 
 pub refuse-line-spec : {M : Type 1} → statement M
 refuse-line-spec = tie.close (tie.spec put-refused-requires same-length returns)

@@ -1,16 +1,7 @@
 use borrow.Author.Tests.{not-true, not-false, eq-eqb, ne-eqb}
 use mathlib.Core.Path.{refl}
-use Prim.Native.Nat.{_-_, _≤_}
-use Rattle.bench.specs.Replies.{openReply, setReply}
+use Rattle.bench.specs.Replies.{openReply, settingsReply}
 use lib.Dec.{lit≤}
-use borrow.Author.Tests.{not-true, not-false, eq-eqb, ne-eqb}
-use mathlib.Core.Path.{refl}
-use Prim.Native.Nat.{_-_}
-use Rattle.bench.specs.Replies.{openReply, setReply}
-use borrow.Author.Tests.{not-true, not-false, eq-eqb, ne-eqb}
-use mathlib.Core.Path.{refl}
-use Prim.Native.Nat.{_-_}
-use Rattle.bench.specs.Replies.{openReply, setReply}
 use borrow.Author.Needs.{needs}
 use Rattle.bench.proofs.reply.set_line.Statement.{statement}
 use Rattle.bench.proofs.reply.set_line.Tie as tie
@@ -25,7 +16,7 @@ same-length : tie.Need-same-length
 same-length c = search needs
 
 returns : tie.Need-returns
-unfolding setReply openReply
+unfolding settingsReply openReply
 returns c = rw (← c .before .before .before .before .before .parse-settings .ensures, not-true (c .before .before .before .before .before .parse-settings .result .good) (c .before .before .before .before .if1 .taken)) (c .before .before .refuse-line .ensures)
 
 open-requires : tie.Need-open-requires
@@ -38,7 +29,7 @@ same-length-2 : tie.Need-same-length-2
 same-length-2 c = search needs
 
 returns-2 : tie.Need-returns-2
-unfolding setReply openReply
+unfolding settingsReply openReply
 returns-2 c = rw (← c .before .before .before .before .before .before .before .before .parse-settings .ensures, not-false (c .before .before .before .before .before .before .before .before .parse-settings .result .good) (c .before .before .before .before .before .before .before .if1 .left), ← c .before .before .before .before .before .«open» .ensures, ne-eqb _ 0 (c .before .before .before .before .if2 .taken)) (c .before .before .refuse-line2 .ensures)
 
 slice-aggregate-put-text : tie.Need-slice-aggregate-put-text
@@ -51,8 +42,8 @@ same-length-3 : tie.Need-same-length-3
 same-length-3 c = search needs
 
 returns-3 : tie.Need-returns-3
-unfolding setReply openReply
-returns-3 c = rw (← c .before .before .before .before .before .before .before .before .before .before .parse-settings .ensures, not-false (c .before .before .before .before .before .before .before .before .before .before .parse-settings .result .good) (c .before .before .before .before .before .before .before .before .before .if1 .left), ← c .before .before .before .before .before .before .before .«open» .ensures, eq-eqb _ 0 (c .before .before .before .before .before .before .if2 .left)) (record { bench-is = refl; text-is = c .before .before .put-text .ensures; short = lit≤ tt })
+unfolding settingsReply openReply
+returns-3 c = rw (← c .before .before .before .before .before .before .before .before .before .before .parse-settings .ensures, not-false (c .before .before .before .before .before .before .before .before .before .before .parse-settings .result .good) (c .before .before .before .before .before .before .before .before .before .if1 .left), ← c .before .before .before .before .before .before .before .«open» .ensures, eq-eqb _ 0 (c .before .before .before .before .before .before .if2 .left)) (record { box-is = refl; text-is = c .before .before .put-text .ensures; short = lit≤ tt })
 
 pub set-line-spec : {M : Type 1} → statement M
 set-line-spec =

@@ -1,7 +1,7 @@
 use mathlib.Core.Path.{refl}
 use lib.Dec.{lit≤}
 use Prim.Native.Nat.{_-_}
-use Rattle.bench.specs.Trace.{begun}
+use Rattle.bench.specs.Replies.{begun}
 use borrow.Author.Needs.{needs}
 use Rattle.bench.proofs.trace.begin.Statement.{statement}
 use Rattle.bench.proofs.trace.begin.Tie as tie
@@ -21,7 +21,7 @@ same-length c = search needs
 returns : tie.Need-returns
 unfolding begun
 returns c =
-    record { number-is = refl; setup-is = rw (c .idle-link .ensures); text-is = c .before .before .before .put-text .ensures; short = lit≤ tt }
+    record { number-is = refl; box-is = rw (c .idle-link .ensures); text-is = c .before .before .before .put-text .ensures; short = lit≤ tt }
 
 pub begin-spec : {M : Type 1} → statement M
 begin-spec = tie.close (tie.spec slice-aggregate-put-text put-text-requires idle-link-requires same-length returns)

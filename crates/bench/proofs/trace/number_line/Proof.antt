@@ -1,6 +1,7 @@
 use Rattle.text.proofs.Pages.{after}
-use Rattle.bench.specs.Trace.{numbered}
-use Rattle.bench.proofs.Steps.{numbered-length}
+use Rattle.script.specs.Trace.{numbered}
+use Rattle.script.proofs.Steps.{numbered-length}
+use Rattle.bench.specs.Replies.{groundBench}
 use borrow.Author.Needs.{needs}
 use Rattle.bench.proofs.trace.number_line.Statement.{statement}
 use Rattle.bench.proofs.trace.number_line.Tie as tie
@@ -29,9 +30,9 @@ returns c = let n = c .before .before .before .before .before .before .before .b
     let a = c .before .before .before .before .before .before .before .answer-line .ensures in
     record {
       number-is = n;
-      setup-is = a .bench-is;
+      box-is = a .box-is;
       text-is = rw (← n) (after (c .before .before .before .before .before .before .before .before .before .before .before .before .before .before .before .put-decimal .ensures) (after (c .before .before .before .before .before .before .before .before .before .before .before .put-byte .ensures) (after (a .text-is) (c .before .before .before .put-byte2 .ensures))));
-      short = numbered-length _ _ _ (a .short);
+      short = numbered-length groundBench _ _ _ (a .short);
     }
 
 pub number-line-spec : {M : Type 1} → statement M

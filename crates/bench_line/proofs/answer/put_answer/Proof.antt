@@ -1,58 +1,67 @@
-use mathlib.Core.Path.{_≡_}
-use lib.ListN.{length}
-use denote.Ref.{now}
-use Prim.Native.Nat.{_≤_}
-use Rattle.bench_line.proofs.Short.{said-length}
-use borrow.Author.Tests.{eq-eqb, ne-eqb}
-use Rattle.bench_line.specs.AnswerText.{answerText}
-use borrow.Author.Tests.{eq-eqb, ne-eqb}
-use Rattle.text.proofs.Pages.{after}
+use mathlib.Core.Bool.{true}
+use mathlib.Core.Path.{_≡_, refl, sym, ap, _∙_}
+use Prim.Native.Nat.{ℕ, _≤_}
+use native.Mathlib.Omega.{arith}
+use native.Mathlib.Nat.{min-le-right}
+use lib.ListN.{length, take, length-take}
+use lib.Seq.{length-take-le}
+use Rattle.text.proofs.Laws.{take-least}
 use Rattle.bench_line.specs.AnswerText.{answerText}
 use borrow.Author.Needs.{needs}
 use Rattle.bench_line.proofs.answer.put_answer.Statement.{statement}
 use Rattle.bench_line.proofs.answer.put_answer.Tie as tie
 
-eight : (c : tie.Start) → (length (c .args .said .acts .list) ≡ 8) × (length (c .args .said .sent .octets) ≡ 8)
-eight c = (search needs, search needs)
+eight : (c : tie.Start) → length (c .args .said .sent .octets) ≡ 8
+eight c = search needs
 
-short-text : (c : tie.Start) → length (now (c .args .came)) ≤ 2048 → length (answerText (c .args .said) (now (c .args .came))) ≤ 33000
-short-text c = said-length (c .args .said) (now (c .args .came)) (eight c .0) (eight c .1)
+least-requires : tie.Need-least-requires
+least-requires c κs = search needs
 
-put-refused-requires : tie.Need-put-refused-requires
-put-refused-requires c κs = search needs
+slice-aggregate-put-brief : tie.Need-slice-aggregate-put-brief
+slice-aggregate-put-brief c = search needs
+
+slice-aggregate-put-brief-2 : tie.Need-slice-aggregate-put-brief-2
+slice-aggregate-put-brief-2 c = search needs
+
+slice-aggregate-put-brief-3 : tie.Need-slice-aggregate-put-brief-3
+slice-aggregate-put-brief-3 c = search needs
+
+slice-aggregate-put-brief-4 : tie.Need-slice-aggregate-put-brief-4
+slice-aggregate-put-brief-4 c = search needs
+
+array-share-prefix-octets : tie.Need-array-share-prefix-octets
+array-share-prefix-octets c = omega (arith, c .before .before .before .before .before .least .ensures .within, eight (c .before .before .before .before .before .before .before .before .before .before .before))
+
+slice-aggregate-put-brief-5 : tie.Need-slice-aggregate-put-brief-5
+slice-aggregate-put-brief-5 c = sym (length-take-le _ _ (omega (arith, c .before .before .before .before .before .before .least .ensures .within, eight (c .before .before .before .before .before .before .before .before .before .before .before .before))))
+
+put-brief-requires : tie.Need-put-brief-requires
+put-brief-requires c κs = search needs
 
 same-length : tie.Need-same-length
 same-length c = search needs
 
 returns : tie.Need-returns
 unfolding answerText
-returns c = record { text-is = rw (ne-eqb _ 0 (c .before .before .before .before .if1 .taken)) (c .before .before .put-refused .ensures); short = short-text (c .before .before .before .before .before .before .before) }
-
-slice-aggregate-put-text : tie.Need-slice-aggregate-put-text
-slice-aggregate-put-text c = search needs
-
-put-text-requires : tie.Need-put-text-requires
-put-text-requires c κs = search needs
-
-put-entries-requires : tie.Need-put-entries-requires
-put-entries-requires c κs = search needs
-
-same-length-2 : tie.Need-same-length-2
-same-length-2 c = search needs
-
-returns-2 : tie.Need-returns-2
-unfolding answerText
-returns-2 c = record { text-is = rw (eq-eqb _ 0 (c .before .before .before .before .before .before .before .before .before .if1 .left)) (after (c .before .before .before .before .before .before .put-text .ensures) (c .before .before .put-entries .ensures)); short = short-text (c .before .before .before .before .before .before .before .before .before .before .before .before) }
+returns c = let start = c .before .before .before .before .before .before .before .before .before .before .before .before .before .before .before in
+    let low = c .before .before .before .before .before .before .before .before .before .least in
+    let octets = start .args .said .sent .octets in
+    let b = c .before .before .put-brief .ensures in
+    let m : take (low .result) octets ≡ take (start .args .said .sent .n) octets = ap (λ (j : ℕ). take j octets) (low .ensures .is) ∙ take-least (start .args .said .sent .n) 8 octets (eight start) in
+    let few : length (take (start .args .said .sent .n) octets) ≤ 2048 = omega (arith, length-take (start .args .said .sent .n) octets, min-le-right (start .args .said .sent .n) (length octets), eight start) in
+    record { text-is = rw (← m) (b .text-is); short = rw (← m) (b .short (refl {a = true}) (rw m few)) }
 
 pub put-answer-spec : {M : Type 1} → statement M
 put-answer-spec =
     tie.close
     (tie.spec
-    put-refused-requires
+    least-requires
+    slice-aggregate-put-brief
+    slice-aggregate-put-brief-2
+    slice-aggregate-put-brief-3
+    slice-aggregate-put-brief-4
+    array-share-prefix-octets
+    slice-aggregate-put-brief-5
+    put-brief-requires
     same-length
-    returns
-    slice-aggregate-put-text
-    put-text-requires
-    put-entries-requires
-    same-length-2
-    returns-2)
+    returns)

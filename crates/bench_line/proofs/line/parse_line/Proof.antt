@@ -1,67 +1,87 @@
-use borrow.Author.Tests.{lt-ltb, le-leb, lt-leb}
-use mathlib.Core.Path.{sym, _∙_}
-use Prim.Native.Nat.{_-_}
-use lib.Seq.{length-take-le}
+use mathlib.Core.Path.{_∙_}
+use lib.ListN.{length}
 use denote.Ref.{now}
-use Rattle.bench_line.specs.Lines.{parsedIn, parsedLine, parsedInto}
-use Rattle.bench_line.proofs.LineCalls.{word-asked}
+use Rattle.script.specs.Fields.{heldIn}
+use Rattle.script.specs.Lines.{callOf}
+use Rattle.script.proofs.Heard.{heard-makes}
+use Rattle.bench_line.specs.Lines.{parsedIn, groundScript}
 use borrow.Author.Needs.{needs}
 use Rattle.bench_line.proofs.line.parse_line.Statement.{statement}
 use Rattle.bench_line.proofs.line.parse_line.Tie as tie
 
-returns : tie.Need-returns
-unfolding parsedInto parsedIn
-returns c = rw (lt-leb 2048 _ (c .if1 .taken))
+slice-aggregate-read-line : tie.Need-slice-aggregate-read-line
+slice-aggregate-read-line c = search needs
 
-returns-2 : tie.Need-returns-2
-unfolding parsedInto parsedLine parsedIn
-returns-2 c = rw (le-leb 2048 _ (c .before .if1 .left), lt-ltb _ _ (c .if2 .taken))
+slice-aggregate-read-line-2 : tie.Need-slice-aggregate-read-line-2
+slice-aggregate-read-line-2 c = search needs
 
-word-end-requires : tie.Need-word-end-requires
-word-end-requires c κs = search needs
+slice-aggregate-read-line-3 : tie.Need-slice-aggregate-read-line-3
+slice-aggregate-read-line-3 c = search needs
 
-slice-aggregate-word-of : tie.Need-slice-aggregate-word-of
-slice-aggregate-word-of c = sym (length-take-le _ _ (c .before .word-end .ensures .within))
+read-line-requires : tie.Need-read-line-requires
+read-line-requires c κs = search needs
 
-word-of-requires : tie.Need-word-of-requires
-word-of-requires c κs = search needs
+enum-known-held : tie.Need-enum-known-held
+enum-known-held c = search needs
 
-sub-call-of : tie.Need-sub-call-of
-sub-call-of c = search needs
+octets-call-requires : tie.Need-octets-call-requires
+octets-call-requires c κs = search needs
 
-part-call-of-start : tie.Need-part-call-of-start
-part-call-of-start c = search needs
+enum-known-held-2 : tie.Need-enum-known-held-2
+enum-known-held-2 c = search needs
 
-part-call-of-end : tie.Need-part-call-of-end
-part-call-of-end c = search needs
+number-call-requires : tie.Need-number-call-requires
+number-call-requires c κs = search needs
 
-call-of-requires : tie.Need-call-of-requires
-call-of-requires c κs = search needs
+enum-told : tie.Need-enum-told
+enum-told c = search needs
 
 same-length : tie.Need-same-length
 same-length c = search needs
 
+returns : tie.Need-returns
+unfolding heldIn callOf
+returns c = let k = c .before .before .before .before .before .before .before .read-line in
+    let start = c .before .before .before .before .before .before .before .before .before .before .before .before .before .before in
+    let is = heard-makes groundScript (length (now (start .args .octets))) (now (start .args .line)) (k .last .1 .1 .1 .1 .0) (k .result) (k .ensures) in
+    c .octets-call .ensures ∙ (rw (c .before .before .before .held .given .1) at is)
+
+same-length-2 : tie.Need-same-length-2
+same-length-2 c = search needs
+
+returns-2 : tie.Need-returns-2
+unfolding heldIn callOf
+returns-2 c = let k = c .before .before .before .before .before .before .read-line in
+    let start = c .before .before .before .before .before .before .before .before .before .before .before .before .before in
+    let is = heard-makes groundScript (length (now (start .args .octets))) (now (start .args .line)) (k .last .1 .1 .1 .1 .0) (k .result) (k .ensures) in
+    c .number-call .ensures _ ∙ (rw (c .before .before .held2 .given .1) at is)
+
+same-length-3 : tie.Need-same-length-3
+same-length-3 c = search needs
+
 returns-3 : tie.Need-returns-3
-unfolding parsedInto
-returns-3 c =
-    let w = c .before .before .before .before .before in
-    let e = w .before .before in
-    let line = now (e .before .before .before .before .before .args .line) in
-    let is = word-asked line (e .word-end .result) (w .word-of .result) (e .before .if2 .left) (e .word-end .ensures .is) (w .word-of .ensures) in
-    rw (le-leb 2048 _ (e .before .before .if1 .left)) (c .before .before .call-of .ensures ∙ is)
+unfolding heldIn callOf parsedIn
+returns-3 c = let k = c .before .before .before .before .read-line in
+    let start = c .before .before .before .before .before .before .before .before .before .before .before in
+    let is = heard-makes groundScript (length (now (start .args .octets))) (now (start .args .line)) (k .last .1 .1 .1 .1 .0) (k .result) (k .ensures) in
+    (rw (c .enum-told .given .1) at is)
 
 pub parse-line-spec : {M : Type 1} → statement M
 parse-line-spec =
     tie.close
     (tie.spec
-    returns
-    returns-2
-    word-end-requires
-    slice-aggregate-word-of
-    word-of-requires
-    sub-call-of
-    part-call-of-start
-    part-call-of-end
-    call-of-requires
+    slice-aggregate-read-line
+    slice-aggregate-read-line-2
+    slice-aggregate-read-line-3
+    read-line-requires
+    enum-known-held
+    octets-call-requires
+    enum-known-held-2
+    number-call-requires
+    enum-told
     same-length
+    returns
+    same-length-2
+    returns-2
+    same-length-3
     returns-3)

@@ -1,4 +1,3 @@
-use Prim.Native.Nat.{_-_}
 use Rattle.bench_line.specs.Lines.{requestCall}
 use borrow.Author.Needs.{needs}
 use Rattle.bench_line.proofs.line.request_call.Statement.{statement}

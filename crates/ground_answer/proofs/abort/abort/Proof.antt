@@ -3,14 +3,8 @@ use borrow.Author.Needs.{needs}
 use Rattle.ground_answer.proofs.abort.abort.Statement.{statement}
 use Rattle.ground_answer.proofs.abort.abort.Tie as tie
 
-stop-all-requires : tie.Need-stop-all-requires
-stop-all-requires c κs = search needs
-
-add-requires : tie.Need-add-requires
-add-requires c κs = search needs
-
-add-requires-2 : tie.Need-add-requires-2
-add-requires-2 c κs = search needs
+abort-all-requires : tie.Need-abort-all-requires
+abort-all-requires c κs = search needs
 
 write-requires : tie.Need-write-requires
 write-requires c κs = search needs
@@ -23,15 +17,13 @@ tell-requires c κs = search needs
 
 returns : tie.Need-returns
 unfolding aborted
-returns c = rw (c .tell .ensures, c .before .clear .ensures, c .before .before .before .write .ensures, c .before .before .before .before .add2 .ensures, c .before .before .before .before .before .add .ensures, c .before .before .before .before .before .before .stop-all .ensures)
+returns c = rw (c .tell .ensures, c .before .clear .ensures, c .before .before .before .write .ensures, c .before .before .before .before .abort-all .ensures)
 
 pub abort-spec : {M : Type 1} → statement M
 abort-spec =
     tie.close
     (tie.spec
-    stop-all-requires
-    add-requires
-    add-requires-2
+    abort-all-requires
     write-requires
     clear-requires
     tell-requires

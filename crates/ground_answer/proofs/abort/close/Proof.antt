@@ -6,11 +6,8 @@ use Rattle.ground_answer.proofs.abort.close.Tie as tie
 clear-requires : tie.Need-clear-requires
 clear-requires c κs = search needs
 
-stop-all-requires : tie.Need-stop-all-requires
-stop-all-requires c κs = search needs
-
-add-requires : tie.Need-add-requires
-add-requires c κs = search needs
+stop-then-requires : tie.Need-stop-then-requires
+stop-then-requires c κs = search needs
 
 nothing-requires : tie.Need-nothing-requires
 nothing-requires c κs = search needs
@@ -20,9 +17,9 @@ tell-requires c κs = search needs
 
 returns : tie.Need-returns
 unfolding closed
-returns c = rw (c .tell .ensures, c .before .nothing .ensures, c .before .before .add .ensures, c .before .before .before .stop-all .ensures, c .before .before .before .before .clear .ensures)
+returns c = rw (c .tell .ensures, c .before .nothing .ensures, c .before .before .stop-then .ensures, c .before .before .before .clear .ensures)
 
 pub close-spec : {M : Type 1} → statement M
 close-spec =
     tie.close
-    (tie.spec clear-requires stop-all-requires add-requires nothing-requires tell-requires returns)
+    (tie.spec clear-requires stop-then-requires nothing-requires tell-requires returns)

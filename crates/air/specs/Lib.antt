@@ -1,0 +1,4 @@
+pub mod Requests
+pub mod Arrivals
+pub mod Endings
+pub mod Runs

@@ -1,0 +1,4 @@
+pub mod Names
+pub mod Watch
+pub mod Moves
+pub mod Tables
