@@ -9,7 +9,7 @@ ghost use mathlib.Core.Path.{_≡_};
 ghost use mathlib.Core.Bool.{not};
 ghost use Prim.Native.Nat.{_+_, _-_};
 ghost use lib.Dec.{eqb, leb};
-ghost use Rattle.per.specs.Codec.{unless};
+ghost use Rattle.per.specs.Codec.{unless, refuse};
 ghost use Rattle.per.specs.Formats.{run, num, flag, extension, signed, mask, maskBad, has, index, count, when};
 ghost use Rattle.per.specs.Pdu.{window, start, ending, finish};
 ghost use Rattle.per.specs.Reading.{Reads};
@@ -43,6 +43,16 @@ pub struct Signed {
 pub struct SignedRead {
     pub value: Signed,
     pub next: Cursor,
+}
+
+// Nothing was read at a place, for the refusal's reason.
+fn refused(at: usize, refusal: u8) -> Num
+    ensures { λ r. ⌜ r ≡ record { value = 0; next = refuse at refusal } ⌝ }
+{
+    Num {
+        value: 0,
+        next: Cursor { at, refusal },
+    }
 }
 
 // A number v that was sent is above the range lo..hi; nothing is in an empty range.
@@ -137,13 +147,7 @@ impl Cursor {
             };
         }
         if left(s, at) < w {
-            return Num {
-                value: 0,
-                next: Cursor {
-                    at,
-                    refusal: CUT_SHORT,
-                },
-            };
+            return refused(at, CUT_SHORT);
         }
         // Called from one place alone, the leaf would be compiled into `take`, which then is too long to be compiled into its callers, where w is known.
         if w <= 8 {
@@ -157,13 +161,7 @@ impl Cursor {
             };
         }
         if 32 < w {
-            return Num {
-                value: 0,
-                next: Cursor {
-                    at,
-                    refusal: ABOVE_RANGE,
-                },
-            };
+            return refused(at, ABOVE_RANGE);
         }
         let v = bits_at(s, at, w);
         Num {
