@@ -62,8 +62,7 @@ host-still call octets s o = go (eqb (length s) RECORD-OCTETS)
 
 -- ---- "calls on the record's octets are the calls by value": over every sequence of calls, so every promise of the link holds of the host's record
 record-long : (l : Link) → Fine l → length (recordOctets l) ≡ RECORD-OCTETS
-unfolding recordOctets
-record-long l s = length-record (l .setting) (l .left) (l .at) (l .interval) (s .settings) (s .lefts)
+record-long l s = length-record l (s .lefts) (s .settings)
 
 told-link : (l : Link) (c : Made) → told (recordOctets l) (replicate 22 0) (reply l c) .link ≡ recordOctets (reply l c .link)
 unfolding told

@@ -3,15 +3,14 @@ use Prim.Native.Nat.{ℕ, zero, suc, _+_, _*_, _≤_, _<_}
 use mathlib.Core.Path.{_≡_, refl, sym, ap, _∙_}
 use mathlib.Core.List.{List, [], _∷_, _++_, append-nil}
 use native.Mathlib.Omega.{arith}
-use lib.ListN.{length, getD, set, drop, length-append, drop-of-length-le}
+use lib.ListN.{length, getD, set, take, drop, length-append, drop-of-length-le}
 use lib.Seq.{sets, sets-eq, drop-cons}
 use borrow.Author.Tests.{eq-eqb, ne-eqb}
 use Rattle.link.specs.Names.{timers}
-use Rattle.ground_tables.specs.declared.intervals.Intervals.{Intervals}
 use Rattle.ground_answer.specs.declared.record.Link.{Link}
-use Rattle.host_record.specs.RecordLayout.{five, intervalOctets, RECORD-OCTETS, recordOctets, saved}
+use Rattle.host_record.specs.RecordLayout.{five, intervalOctets, RECORD-OCTETS, restOctets, recordOctets, saved}
 use Rattle.octets.specs.Octets.{quad, quads, wordAt, words}
-use Rattle.octets.specs.laws.Numbers.{length-quads}
+use Rattle.octets.specs.laws.Numbers.{length-quads, quads-words}
 
 add-one : (i : ℕ) → i + 1 ≡ suc i
 add-one i = omega arith
@@ -33,6 +32,14 @@ pub sets-append : (xs ys l : List ℕ) (i n : ℕ) → n ≡ i + length xs → s
 sets-append [] ys l i n e = let f : n ≡ i = omega (arith, e) in rw f
 sets-append (x ∷ xs) ys l i n e = sets-append xs ys (set l i x) (suc i) n (omega (arith, e))
 
+-- and up to the end
+sets-end : (xs l : List ℕ) (i : ℕ) → length l ≡ i + length xs → sets l i xs ≡ take i l ++ xs
+sets-end xs l i e =
+    let n : length l ≤ i + length xs = omega (arith, e) in
+    sets-eq xs l i (omega (arith, e))
+    ∙ ap (λ (r : List ℕ). take i l ++ xs ++ r) (drop-of-length-le l n)
+    ∙ append-nil (take i l ++ xs)
+
 -- ---- numbers that are read one after another
 length-words : (s : List ℕ) (i n : ℕ) → length (words s i n) ≡ n
 length-words s i zero = refl
@@ -50,25 +57,33 @@ words-step l s i n =
     ∙ ap (sets l 0) (words-more s i n ∙ ap (words s i) (sym (add-one n)))
 
 -- ---- the whole record
-pub length-record : (a b at : List ℕ) (i : Intervals) → length a ≡ timers → length b ≡ timers
-    → length (quads a ++ (quads b ++ (five at ++ intervalOctets i))) ≡ RECORD-OCTETS
-length-record a b at i h k =
-    let z : List ℕ = five at ++ intervalOctets i in
-    length-append (quads a) (quads b ++ z) ∙ omega (arith, length-quads a, length-append (quads b) z, length-quads b)
+module _ (l : Link) (k : length (l .left) ≡ timers) where
+  length-rest : length (restOctets l) ≡ 49
+  length-rest = length-append (quads (l .left)) (five (l .at) ++ intervalOctets (l .interval)) ∙ omega (arith, length-quads (l .left))
 
-pub record-whole : (out a b at : List ℕ) (i : Intervals) → length out ≡ RECORD-OCTETS → length a ≡ timers → length b ≡ timers
-    → sets (sets (sets (sets out 0 (quads a)) 36 (quads b)) 72 (five at)) 77 (intervalOctets i) ≡ quads a ++ (quads b ++ (five at ++ intervalOctets i))
-record-whole out a b at i n h k =
-    let z : List ℕ = five at ++ intervalOctets i in
-    let whole = quads a ++ (quads b ++ z) in
-    let e = length-record a b at i h k in
-    let m : length out ≤ 0 + length whole = omega (arith, e) in
-    sets-append (five at) (intervalOctets i) (sets (sets out 0 (quads a)) 36 (quads b)) 72 77 refl
-    ∙ sets-append (quads b) z (sets out 0 (quads a)) 36 72 (omega (arith, length-quads b))
-    ∙ sets-append (quads a) (quads b ++ z) out 0 36 (omega (arith, length-quads a))
-    ∙ sets-eq whole out 0 (omega (arith, e))
-    ∙ ap (λ (r : List ℕ). whole ++ r) (drop-of-length-le out m)
-    ∙ append-nil whole
+  pub length-record : length (l .setting) ≡ timers → length (recordOctets l) ≡ RECORD-OCTETS
+  unfolding recordOctets
+  length-record h = length-append (quads (l .setting)) (restOctets l) ∙ omega (arith, length-quads (l .setting), length-rest)
+
+  module _ (s : List ℕ) where
+    pub rest-run : sets (sets (sets s 36 (quads (l .left))) 72 (five (l .at))) 77 (intervalOctets (l .interval)) ≡ sets s 36 (restOctets l)
+    rest-run =
+        sets-append (five (l .at)) (intervalOctets (l .interval)) (sets s 36 (quads (l .left))) 72 77 refl
+        ∙ sets-append (quads (l .left)) (five (l .at) ++ intervalOctets (l .interval)) s 36 72 (omega (arith, length-quads (l .left)))
+
+    module _ (n : length s ≡ RECORD-OCTETS) where
+      pub record-whole : length (l .setting) ≡ timers → sets (sets s 0 (quads (l .setting))) 36 (restOctets l) ≡ recordOctets l
+      unfolding recordOctets
+      record-whole h =
+          sets-append (quads (l .setting)) (restOctets l) s 0 36 (omega (arith, length-quads (l .setting)))
+          ∙ sets-end (quads (l .setting) ++ restOctets l) s 0 (omega (arith, n, length-record h))
+
+      -- where the octets spell the settings already
+      pub record-rest : ((i : ℕ) → getD s i 0 < 256) → l .setting ≡ words s 0 timers → sets s 36 (restOctets l) ≡ recordOctets l
+      unfolding recordOctets
+      record-rest f e =
+          sets-end (restOctets l) s 36 (omega (arith, n, length-rest))
+          ∙ ap (λ (x : List ℕ). x ++ restOctets l) (sym (ap quads e ∙ quads-words s 0 timers f (omega (arith, n))))
 
 -- ---- into octets that are a record's, and into others
 module _ (l : Link) (s : List ℕ) where

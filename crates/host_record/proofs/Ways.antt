@@ -1,19 +1,27 @@
 -- The ways out of a call on lent octets, one law each. Assumes nothing.
 use Prim.Native.Nat.{ℕ, _≤_, _<_}
 use mathlib.Core.Path.{_≡_, refl}
-use mathlib.Core.List.{List}
+use mathlib.Core.List.{List, [], _∷_}
 use lib.ListN.{length}
 use lib.Seq.{sets}
 use borrow.Author.Tests.{eq-eqb, ne-eqb, lt-ltb, le-ltb}
+use Rattle.sides.specs.Runs.{after}
 use Rattle.ground_answer.specs.declared.answer.Answer.{Answer}
 use Rattle.ground_answer.specs.declared.fresh.Opened.{Opened}
 use Rattle.ground.specs.declared.call.Call.{Call}
 use Rattle.ground_answer.specs.Fresh.{opened}
 use Rattle.ground.specs.Runs.{answered}
+use Rattle.ground.proofs.Promises.{settings-stay}
+use Rattle.octets.specs.Octets.{words}
 use Rattle.host_record.specs.RecordLayout.{RECORD-OCTETS, linkOf, recordOctets}
 use Rattle.host_record.specs.AnswerLayout.{answerOctets}
 use Rattle.link.specs.Names.{timers}
 use Rattle.host_record.specs.Hosting.{hosted, told, Hosts, settingsOf, made, opensInto, Makes}
+
+-- what a call gives has the settings that the octets spell
+pub same-settings : (call : Call) (octets s : List ℕ) (a : Answer) → a ≡ answered (linkOf s) call octets → a .link .setting ≡ words s 0 timers
+unfolding linkOf after
+same-settings call octets s a e = rw e (settings-stay (linkOf s) (record { call = call; octets = octets } ∷ []))
 
 module _ (call : Call) (octets s o : List ℕ) where
   pub no-record : (length s ≡ RECORD-OCTETS → ⊥) → Hosts (hosted call octets s o) 29 s o

@@ -22,9 +22,13 @@ intervalOctets i = quads (i .asked ∷ i .force ∷ [])
 abbrev pub RECORD-OCTETS : ℕ
 RECORD-OCTETS = 85
 
+-- what follows the settings: all that a call can change
+abbrev pub restOctets : Link → List ℕ
+restOctets l = quads (l .left) ++ (five (l .at) ++ intervalOctets (l .interval))
+
 -- 0 to 35 the nine settings in watch order; 36 to 71 the seconds left; 72 to 76 the states of DC, EC, PC, EM and LI; 77 to 84 the intervals
 unfoldable pub recordOctets : Link → List ℕ
-recordOctets l = quads (l .setting) ++ (quads (l .left) ++ (five (l .at) ++ intervalOctets (l .interval)))
+recordOctets l = quads (l .setting) ++ restOctets l
 
 -- the settings and the seconds left that octets spell
 pub record Spelled (s setting left : List ℕ) : Type 0 where

@@ -10,7 +10,9 @@ use octets::read_word;
 ghost use mathlib.Core.Path.{_≡_};
 ghost use lib.ListN.{length};
 ghost use lib.Seq.{sets};
-ghost use Rattle.host_record.specs.RecordLayout.{five, intervalOctets, Spelled, RECORD-OCTETS, linkOf, recordOctets, saved};
+ghost use Rattle.link.specs.Names.{timers};
+ghost use Rattle.octets.specs.Octets.{words};
+ghost use Rattle.host_record.specs.RecordLayout.{five, intervalOctets, Spelled, RECORD-OCTETS, linkOf, restOctets, recordOctets, saved};
 
 pub const RECORD: usize = 85;
 
@@ -74,18 +76,26 @@ fn put_intervals(out: &mut [u8], i: Intervals)
     put_word(out, 81, i.force);
 }
 
+// All that a call can change.
+fn put_rest(l: Link, out: &mut [u8])
+    requires { ⌜ length (now out) ≡ RECORD-OCTETS ⌝ }
+    ensures { λ _. ⌜ now (out .exit) ≡ sets (now (out .entry)) 36 (restOctets l) ⌝ }
+{
+    let left = l.left;
+    let at = l.at;
+    let interval = l.interval;
+    put_words(out, 36, left);
+    put_states(out, at);
+    put_intervals(out, interval);
+}
+
 fn store(l: Link, out: &mut [u8])
     requires { ⌜ length (now out) ≡ RECORD-OCTETS ⌝ }
     ensures { λ _. ⌜ now (out .exit) ≡ recordOctets l ⌝ }
 {
     let setting = l.setting;
-    let left = l.left;
-    let at = l.at;
-    let interval = l.interval;
     put_words(out, 0, setting);
-    put_words(out, 36, left);
-    put_states(out, at);
-    put_intervals(out, interval);
+    put_rest(l, out);
 }
 
 // Octets that are no record's stay.
@@ -95,4 +105,15 @@ pub fn save(l: Link, out: &mut [u8])
     if out.len() == RECORD {
         store(l, out);
     }
+}
+
+// The same where the settings stand in the octets already. By its test the compiler knows how many octets there are.
+pub(crate) fn save_rest(l: Link, out: &mut [u8])
+    requires { ⌜ l .setting ≡ words (now out) 0 timers ⌝ }
+    ensures { λ _. ⌜ now (out .exit) ≡ saved l (now (out .entry)) ⌝ }
+{
+    if out.len() != RECORD {
+        return;
+    }
+    put_rest(l, out);
 }

@@ -4,6 +4,7 @@ use crate::answer::save_answer;
 use crate::record::RECORD;
 use crate::record::load;
 use crate::record::save;
+use crate::record::save_rest;
 use ground::call::Call;
 use ground::call::answer;
 use ground_answer::fresh::open;
@@ -32,7 +33,7 @@ pub fn step(link: &mut [u8], call: Call, octets: &[u8], out: &mut [u8]) -> u8
         return NO_ROOM;
     }
     let after = a.link;
-    save(after, link);
+    save_rest(after, link);
     save_answer(said, out);
     0
 }

@@ -1,7 +1,6 @@
 use mathlib.Core.Path.{_≡_, _∙_}
 use lib.ListN.{length}
 use Rattle.link.specs.Names.{timers}
-use Rattle.host_record.specs.RecordLayout.{recordOctets}
 use Rattle.host_record.proofs.Puts.{record-whole}
 use borrow.Author.Needs.{needs}
 use Rattle.host_record.proofs.record.store.Statement.{statement}
@@ -10,14 +9,8 @@ use Rattle.host_record.proofs.record.store.Tie as tie
 put-words-requires : tie.Need-put-words-requires
 put-words-requires c κs = search needs
 
-put-words-requires-2 : tie.Need-put-words-requires-2
-put-words-requires-2 c κs = search needs
-
-put-states-requires : tie.Need-put-states-requires
-put-states-requires c κs = search needs
-
-put-intervals-requires : tie.Need-put-intervals-requires
-put-intervals-requires c κs = search needs
+put-rest-requires : tie.Need-put-rest-requires
+put-rest-requires c κs = search needs
 
 same-length : tie.Need-same-length
 same-length c = search needs
@@ -29,24 +22,11 @@ wide : (c : tie.Start) → length (c .args .l .left) ≡ timers
 wide c = search needs
 
 returns : tie.Need-returns
-unfolding recordOctets
 returns c =
     let p = c .before .before in
     let q = p .before .before .before .before in
-    let r = q .before .before .before .before in
-    let o = r .before .before .before .before in
-    let b = o .before .before .before .before .before .before .before in
-    let l = b .args .l in
-    p .put-intervals .ensures
-    ∙ rw (q .put-states .ensures, r .put-words2 .ensures, o .put-words .ensures) (record-whole (b .args .out .now) (l .setting) (l .left) (l .at) (l .interval) (b .pre) (long b) (wide b))
+    let b = q .before .before .before .before in
+    p .put-rest .ensures ∙ rw (q .put-words .ensures) (record-whole (b .args .l) (wide b) (b .args .out .now) (b .pre) (long b))
 
 pub store-spec : {M : Type 1} → statement M
-store-spec =
-    tie.close
-    (tie.spec
-    put-words-requires
-    put-words-requires-2
-    put-states-requires
-    put-intervals-requires
-    same-length
-    returns)
+store-spec = tie.close (tie.spec put-words-requires put-rest-requires same-length returns)

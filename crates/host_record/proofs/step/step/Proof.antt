@@ -2,7 +2,7 @@ use mathlib.Core.Path.{ap, _∙_}
 use Rattle.ground_answer.specs.declared.record.Link.{Link}
 use Rattle.host_record.proofs.Puts.{saved-record}
 use Rattle.ground.specs.Runs.{answered}
-use Rattle.host_record.proofs.Ways.{no-record, refused-so, no-room, accepted}
+use Rattle.host_record.proofs.Ways.{same-settings, no-record, refused-so, no-room, accepted}
 use borrow.Author.Needs.{needs}
 use Rattle.host_record.proofs.step.step.Statement.{statement}
 use Rattle.host_record.proofs.step.step.Tie as tie
@@ -34,8 +34,11 @@ returns-3 c =
     let a = c .before .before .before .answer in
     no-room (k .call) (k .octets .now) (k .link .now) (k .out .now) (c .before .before .before .before .before .before .if1 .left) (a .result) (a .ensures ∙ ap (λ (l : Link). answered l (k .call) (k .octets .now)) (c .before .before .before .before .load .ensures)) (c .before .if2 .left) (c .if3 .taken)
 
-save-requires : tie.Need-save-requires
-save-requires c κs = search needs
+save-rest-requires : tie.Need-save-rest-requires
+save-rest-requires c κs =
+    let k = c .before .before .before .before .before .before .before .before .before .before .before .before .args in
+    let a = c .before .before .before .before .before .answer in
+    same-settings (k .call) (k .octets .now) (k .link .now) (a .result) (a .ensures ∙ ap (λ (l : Link). answered l (k .call) (k .octets .now)) (c .before .before .before .before .before .before .load .ensures))
 
 save-answer-requires : tie.Need-save-answer-requires
 save-answer-requires c κs = search needs
@@ -50,7 +53,7 @@ returns-4 : tie.Need-returns-4
 returns-4 c =
     let k = c .before .before .before .before .before .before .before .before .before .before .before .before .before .before .before .before .before .before .before .args in
     let a = c .before .before .before .before .before .before .before .before .before .before .before .before .answer in
-    accepted (k .call) (k .octets .now) (k .link .now) (k .out .now) (c .before .before .before .before .before .before .before .before .before .before .before .before .before .before .before .if1 .left) (a .result) (a .ensures ∙ ap (λ (l : Link). answered l (k .call) (k .octets .now)) (c .before .before .before .before .before .before .before .before .before .before .before .before .before .load .ensures)) (c .before .before .before .before .before .before .before .before .before .before .if2 .left) (c .before .before .before .before .before .before .before .before .before .if3 .left) _ _ (c .before .before .before .before .before .before .save .ensures ∙ saved-record _ _ (c .before .before .before .before .before .before .before .before .before .before .before .before .before .before .before .if1 .left)) (c .before .before .save-answer .ensures)
+    accepted (k .call) (k .octets .now) (k .link .now) (k .out .now) (c .before .before .before .before .before .before .before .before .before .before .before .before .before .before .before .if1 .left) (a .result) (a .ensures ∙ ap (λ (l : Link). answered l (k .call) (k .octets .now)) (c .before .before .before .before .before .before .before .before .before .before .before .before .before .load .ensures)) (c .before .before .before .before .before .before .before .before .before .before .if2 .left) (c .before .before .before .before .before .before .before .before .before .if3 .left) _ _ (c .before .before .before .before .before .before .save-rest .ensures ∙ saved-record _ _ (c .before .before .before .before .before .before .before .before .before .before .before .before .before .before .before .if1 .left)) (c .before .before .save-answer .ensures)
 
 pub step-spec : {M : Type 1} → statement M
 step-spec =
@@ -63,7 +66,7 @@ step-spec =
     returns-2
     same-length-2
     returns-3
-    save-requires
+    save-rest-requires
     save-answer-requires
     same-length-3
     same-length-4
