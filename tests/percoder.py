@@ -435,13 +435,13 @@ EXCHANGED = [('report', 'ground-vector', 'air-vector'), ('report', 'air-vector',
              ('weather', 'speed', 'direction'), ('weather', 'temperature', 'turbulence'),
              *(('event-contract', one, other) for one, other in zip(EVENT_ELEMENTS, EVENT_ELEMENTS[1:])),
              ('air-speed-change', 'mach', 'ias'), ('profile-request', 'time', 'points')]
+ALIKE = [('level-range', 'ceiling', 'floor'), ('event-contract', 'heading', 'track')]
 OFFSETS = {
     **{f'{name}.offset': functools.partial(offset, name) for name in (
         'track', 'ground-speed', 'ground-rate', 'heading', 'mach', 'air-rate', 'wind-direction', 'temperature',
         'lateral-deviation', 'rate-change', 'ceiling', 'floor', 'mach-change', 'ias-change', 'ground-speed-change', 'heading-change',
         'profile-time', 'profile-points', 'track-change', 'level-change')},
-    'level-range.ceiling.floor': functools.partial(exchange, 'level-range', 'ceiling', 'floor'),
-    'event-contract.heading.track': functools.partial(exchange, 'event-contract', 'heading', 'track'),
+    **{f'{form}.{one}.{other}': functools.partial(exchange, form, one, other) for form, one, other in ALIKE},
 }
 SENDING = {'default.written-as-sent': lambda: globals().update(written_back=lambda family, octets, value: octets)}
 CHANGES = {
