@@ -26,14 +26,19 @@ CONSTANTS = {
                              "LONGITUDE_MINUTES", "LONGITUDE_TENTHS", "LEVEL", "YEAR", "MONTH", "DAY", "HAS_SECONDS", "HOURS", "MINUTES", "SECONDS", "ACCURACY",
                              "UNITS", "AVOIDANCE", "ADDRESS", "GROUND_PARTS", "TRACK", "GROUND_SPEED", "GROUND_RATE", "AIR_PARTS", "HEADING", "AIR_SPEED", "MACH",
                              "IAS", "AIR_RATE", "WEATHER_PARTS", "WIND_SPEED", "WIND_DIRECTION", "TEMPERATURE", "TURBULENCE")),
-        *("G_" + n for n in ("KIND", "WHAT", "SCALE", "INTERVAL", "ADDRESS", "PROFILE", "GROUND_VECTOR", "AIR_VECTOR", "WEATHER")))}, "ADSC_AIR_NUMBERS": "A_NUMBERS"},
+        *("G_" + n for n in ("KIND", "WHAT", "SCALE", "INTERVAL", "ADDRESS", "PROFILE", "GROUND_VECTOR", "AIR_VECTOR", "WEATHER", "LATERAL", "RATE", "CEILING", "FLOOR",
+                             "AIR_SPEED", "AIR_SPEED_CHANGE", "GROUND_SPEED", "HEADING", "EXTENDED_PROFILE", "EXTENDED_PROFILE_COUNT", "TRACK", "LEVEL")))},
+        "ADSC_AIR_NUMBERS": "A_NUMBERS"},
     "pdu/src/reasons.rt": {f"ADSC_{name}": name for name in (
         "PROVIDER_FAILURE", "INVALID_PDU", "SEQUENCE_ERROR", "TIMER_EXPIRY", "NO_CONTACT", "UNDEFINED_ERROR")},
     "pdu_parts/src/elements.rt": {
         **{f"ADSC_HAS_{name}": name for name in ("ADDRESS", "PROFILE", "GROUND_VECTOR", "AIR_VECTOR", "WEATHER")},
         **{f"ADSC_HAS_{name}": name for name in ("TRACK", "GROUND_SPEED", "GROUND_RATE", "HEADING", "AIR_SPEED", "AIR_RATE", "WIND_SPEED", "WIND_DIRECTION",
                                                  "TEMPERATURE", "TURBULENCE")},
-        "ADSC_URGENT_HAS_ADDRESS": "EMERGENCY_ADDRESS", "ADSC_URGENT_HAS_GROUND_VECTOR": "EMERGENCY_GROUND_VECTOR", "ADSC_ON_WAYPOINT_CHANGE": "WAYPOINT_CHANGE", "ADSC_ON_MERIT_CHANGE": "MERIT_CHANGE"},
+        "ADSC_URGENT_HAS_ADDRESS": "EMERGENCY_ADDRESS", "ADSC_URGENT_HAS_GROUND_VECTOR": "EMERGENCY_GROUND_VECTOR"},
+    "pdu_events/src/elements.rt": {f"ADSC_ON_{name}": name for name in (
+        "LATERAL_CHANGE", "RATE_CHANGE", "LEVEL_RANGE", "WAYPOINT_CHANGE", "AIR_SPEED_CHANGE", "GROUND_SPEED_CHANGE", "HEADING_CHANGE", "PROFILE_CHANGE",
+        "MERIT_CHANGE", "TRACK_CHANGE", "LEVEL_CHANGE")},
     "host_record/src/record.rt": {"ADSC_LINK_OCTETS": "RECORD"},
     "host_record/src/answer.rt": {"ADSC_ANSWER_OCTETS": "ANSWER"},
     "ground_answer/src/answer.rt": {"ADSC_START_REQUEST": "START_REQUEST", "ADSC_END_REQUEST": "END_REQUEST", "ADSC_LATE": "LATE"},
