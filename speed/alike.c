@@ -243,7 +243,7 @@ void alike(const struct pdu *first, int count, int spoils)
         read_lengths(p);
         read_bits(p);
         near = next_to_default(p);
-        if (!p->air)
+        if (!p->air && p->numbers[ADSC_G_KIND] == ADSC_PERIODIC_CONTRACT)
             read_bits(&near);
     }
 }
