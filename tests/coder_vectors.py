@@ -188,7 +188,8 @@ def shapes(form):
     optional = [(name, content, shapes(content)) for name, content in optional if content != NOT_CARRIED]
     base = [dict(zip([name for name, _ in required], values))
             for values in itertools.product(*(shapes(content) for _, content in required))]
-    return [{**need, **may} for may in patterns(form, optional) for need in base]
+    values = [{**need, **may} for may in patterns(form, optional) for need in base]
+    return list({repr(value): value for value in values}.values())     # each once, or those of the whole would be many times as many
 
 
 def numbers(seen, family, value):
