@@ -402,12 +402,6 @@ def extend(form, name):
     part[:] = [(other, content + '*' * (other == name)) for other, content in part]
 
 
-def narrow(form, carried):
-    """A group of which other fields than those are not carried."""
-    part = TABLE[form][1]
-    part[:] = [(name, content if name in carried else NOT_CARRIED) for name, content in part]
-
-
 def offset(name):
     """One range moved down by one: the octets stay good, and every number reads one less."""
     low, high = RANGES[name]
@@ -454,6 +448,5 @@ CHANGES = {
         ('report', 'ground-vector'), ('report', 'air-vector'), ('report', 'weather'), ('emergency-report', 'ground-vector'),
         ('air-vector', 'speed'), ('event-contract', 'level-range'), ('event-contract', 'air-speed'), ('event-contract', 'extended-profile'))},
     'event-contract.needs-none': functools.partial(NEEDS_ONE.remove, 'event-contract'),
-    'event-contract.before-L7': lambda: narrow('event-contract', ('waypoint-change', 'merit-change')),
     **OFFSETS,
 }
