@@ -45,7 +45,7 @@ MASKS = {'demand-contract': (7, 0x7c), 'periodic-contract': (7, 0x7c), 'event-co
          **dict.fromkeys(('demand-report', 'event-report', 'periodic-report'), (7, 0x5c)),
          **{parts: (len(fields), (1 << len(fields)) - 1) for parts, fields in PARTS.items()}}
 MODULI = dict(zip(hostmodel.MODULI, (64, 32, 16, 8, 4)))
-# The numbers of an event contract by the bits that announce them; of two with the range of the first kind and of the second.
+# The numbers of an event contract by the bits that announce them; two of them are of the kind that stands before them.
 EVENTS = {1024: ('lateral-deviation',), 512: ('rate-change',), 256: ('ceiling', 'floor'), 64: ('air-speed-kind', 'air-speed-change'),
           32: ('ground-speed-change',), 16: ('heading-change',), 8: ('profile-kind', 'profile-count'), 2: ('track-change',), 1: ('level-change',)}
 EVENT_KINDS = {'air-speed-kind': 'air-speed-change-index', 'profile-kind': 'profile-index'}
