@@ -31,9 +31,10 @@ fn times_of(i: Interval) -> u32
 fn pair(kind: u32, n: u32) -> [u32; G_NUMBERS]
     ensures { λ r. ⌜ r ≡ pairOf kind n ⌝ }
 {
-    [
-        kind, n, 0, 0, 0, 0, 0, 0, 0, 0, 0, 0, 0, 0, 0, 0, 0, 0, 0, 0, 0,
-    ]
+    let mut f = [0u32; G_NUMBERS];
+    f[G_KIND] = kind;
+    f[G_WHAT] = n;
+    f
 }
 
 fn flat_modify(i: Interval) -> [u32; G_NUMBERS]
@@ -41,9 +42,11 @@ fn flat_modify(i: Interval) -> [u32; G_NUMBERS]
 {
     let scale = scale_of(i);
     let times = times_of(i);
-    [
-        5, 0, scale, times, 0, 0, 0, 0, 0, 0, 0, 0, 0, 0, 0, 0, 0, 0, 0, 0, 0,
-    ]
+    let mut f = [0u32; G_NUMBERS];
+    f[G_KIND] = 5;
+    f[G_SCALE] = scale;
+    f[G_INTERVAL] = times;
+    f
 }
 
 fn flat_periodic(a: Periodic) -> [u32; G_NUMBERS]
