@@ -1,0 +1,14 @@
+pub mod Lists
+pub mod Blocks
+pub mod Packs
+pub mod Plays
+pub mod FormOne
+pub mod Checks
+pub mod Puts
+pub mod Places
+pub mod Judges
+pub mod Seals
+pub mod Recorders
+pub mod Examples
+pub mod Promises
+pub mod Walks

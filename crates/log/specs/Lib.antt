@@ -1,0 +1,6 @@
+pub mod Octets
+pub mod Block
+pub mod Log
+pub mod Play
+pub mod Record
+pub mod Tapes
