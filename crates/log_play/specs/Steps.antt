@@ -26,10 +26,10 @@ use Rattle.log.specs.Play.{Step, went, refused}
 
 -- what a record has for a word that may be followed so: "a field its call doesn't use" is not readable
 unfoldable pub fieldIn : ℕ → ℕ → List ℕ → Field
-fieldIn shape seconds data =
-    pick (eqb shape NUMBER) (pick (eqb (length data) 0) (counts seconds) garbled)
+fieldIn shape seconds s =
+    pick (eqb shape NUMBER) (pick (eqb (length s) 0) (counts seconds) garbled)
     (pick (eqb seconds 0)
-    (pick (eqb shape HEX) (holds data) (pick (eqb shape ALONE) (pick (eqb (length data) 0) (holds []) garbled) garbled))
+    (pick (eqb shape HEX) (holds s) (pick (eqb shape ALONE) (pick (eqb (length s) 0) (holds []) garbled) garbled))
     garbled)
 
 -- the number of a record's word, of which 01's first is 1. Nothing may follow `set`, nor a kind that is no word: "Settings in any other place are 20"

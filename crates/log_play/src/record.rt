@@ -8,8 +8,7 @@ use ground_answer::answer::Answer;
 use ground_answer::answer::Said;
 use ground_answer::answer::refuse;
 use ground_answer::fresh::open;
-use link::moves::TIMERS;
-use octets::read_word;
+use host_record::record::load;
 use script::line::ALONE;
 use script::line::HEX;
 use script::line::Held;
@@ -17,14 +16,12 @@ use script::line::NUMBER;
 use text::least;
 ghost use mathlib.Core.Path.{_≡_};
 ghost use lib.ListN.{length};
-ghost use Rattle.link.specs.Names.{timers};
-ghost use Rattle.octets.specs.Octets.{words};
 ghost use Rattle.script.specs.Fields.{heldIn};
 ghost use Rattle.log.specs.Record.{rec};
 ghost use Rattle.log_play.specs.Steps.{fieldIn, accepted, callStep, callIn, besideOf, openStep};
 ghost use Rattle.log_play.specs.Plays.{stays, stepIn, steppedBy};
 
-// The octets of a settings record: a number of four octets for each timer.
+// The octets of a settings record: those with which a link record begins.
 const SETTINGS: usize = 36;
 
 // Whether a record `went`, the box after it, what was said, and how many octets of its data came with the call.
@@ -68,11 +65,11 @@ fn accept(b: Setup, a: Answer, came: usize) -> Stepped
 }
 
 // What a record has for a word that may be followed so. A field that its call does not use is to be empty.
-fn hold_record(shape: u8, seconds: u32, data: &[u8]) -> Held
-    ensures { λ r. ⌜ heldIn r (now (data .entry)) ≡ fieldIn shape seconds (now (data .entry)) ⌝ }
+fn hold_record(shape: u8, seconds: u32, octets: &[u8]) -> Held
+    ensures { λ r. ⌜ heldIn r (now (octets .entry)) ≡ fieldIn shape seconds (now (octets .entry)) ⌝ }
 {
     if shape == NUMBER {
-        if data.len() != 0 {
+        if octets.len() != 0 {
             return Held::Unread;
         }
         return Held::Number(seconds);
@@ -81,50 +78,37 @@ fn hold_record(shape: u8, seconds: u32, data: &[u8]) -> Held
         return Held::Unread;
     }
     if shape == HEX {
-        return Held::Octets(data.len());
+        return Held::Octets(octets.len());
     }
     if shape != ALONE {
         return Held::Unread;
     }
-    if data.len() != 0 {
+    if octets.len() != 0 {
         return Held::Unread;
     }
     Held::Octets(0)
 }
 
 // A record for a box that has its settings.
-fn play_call(b: Setup, kind: u8, seconds: u32, data: &[u8]) -> Stepped
-    ensures { λ r. ⌜ r ≡ stepIn b (length (besideOf (callIn (rec kind seconds (now (data .entry)))))) (callStep (b .link) (callIn (rec kind seconds (now (data .entry))))) ⌝ }
+fn play_call(b: Setup, kind: u8, seconds: u32, octets: &[u8]) -> Stepped
+    ensures { λ r. ⌜ r ≡ stepIn b (length (besideOf (callIn (rec kind seconds (now (octets .entry)))))) (callStep (b .link) (callIn (rec kind seconds (now (octets .entry))))) ⌝ }
 {
     let w = kind as usize + 1;
     let shape = shape_of(w);
-    let held = hold_record(shape, seconds, data);
-    let told = make_call(w, held, data);
+    let held = hold_record(shape, seconds, octets);
+    let told = make_call(w, held, octets);
     let LineCall::Makes(call, n) = told else {
         return stay(b);
     };
     let link = b.link;
-    let m = least(n, data.len());
-    let a = answer(link, call, &data[..m]);
+    let m = least(n, octets.len());
+    let a = answer(link, call, &octets[..m]);
     accept(b, a, m)
 }
 
-// The settings that 36 octets spell.
-fn settings_in(data: &[u8]) -> [u32; TIMERS]
-    ensures { λ r. ⌜ r ≡ words (now (data .entry)) 0 timers ⌝ }
-{
-    let mut list = [0u32; TIMERS];
-    let mut i: usize = 0;
-    while i < TIMERS {
-        list[i] = read_word(data, i * 4);
-        i += 1;
-    }
-    list
-}
-
 // A record for a box that has none: it is to be its settings.
-fn open_record(b: Setup, kind: u8, seconds: u32, data: &[u8]) -> Stepped
-    ensures { λ r. ⌜ r ≡ stepIn b 0 (openStep (rec kind seconds (now (data .entry)))) ⌝ }
+fn open_record(b: Setup, kind: u8, seconds: u32, octets: &[u8]) -> Stepped
+    ensures { λ r. ⌜ r ≡ stepIn b 0 (openStep (rec kind seconds (now (octets .entry)))) ⌝ }
 {
     if kind != 0 {
         return stay(b);
@@ -132,21 +116,23 @@ fn open_record(b: Setup, kind: u8, seconds: u32, data: &[u8]) -> Stepped
     if seconds != 0 {
         return stay(b);
     }
-    if data.len() != SETTINGS {
+    if octets.len() != SETTINGS {
         return stay(b);
     }
-    let o = open(settings_in(data));
+    let l = load(octets);
+    let setting = l.setting;
+    let o = open(setting);
     let link = o.link;
     let a = refuse(link, o.refusal);
     accept(b, a, 0)
 }
 
 // What a record answers, on a box with or without its settings.
-pub fn play_record(b: Setup, kind: u8, seconds: u32, data: &[u8]) -> Stepped
-    ensures { λ r. ⌜ r ≡ steppedBy b (rec kind seconds (now (data .entry))) ⌝ }
+pub fn play_record(b: Setup, kind: u8, seconds: u32, octets: &[u8]) -> Stepped
+    ensures { λ r. ⌜ r ≡ steppedBy b (rec kind seconds (now (octets .entry))) ⌝ }
 {
     if b.ready {
-        return play_call(b, kind, seconds, data);
+        return play_call(b, kind, seconds, octets);
     }
-    open_record(b, kind, seconds, data)
+    open_record(b, kind, seconds, octets)
 }
