@@ -63,6 +63,9 @@ enum adsc_refusal {
     ADSC_NO_ELEMENT = 15,       /* event contract with no element */
     ADSC_INPUT_OVER = 16,       /* input over 128 octets */
     ADSC_SCRIPT_LINE = 17,      /* script line not readable: of the bench's scripts, no function gives it */
+    ADSC_CHECK_WRONG = 18,      /* check wrong: this and the next two are of flight logs, no function gives them */
+    ADSC_OUT_OF_TURN = 19,      /* block number out of turn */
+    ADSC_NOT_READABLE = 20,     /* record not readable */
     ADSC_BAD_RECORD = 29        /* link record: running timers not those of the watch table, seconds left not 1..setting (of PC2: 1..interval in force plus
                                  * setting), a setting not 1..86,400, an interval missing from its state of PC, foreign to it, or over 7,200, or LI in IDLE or
                                  * END with a module not IDLE; numbers that are no states; not of 85 octets */

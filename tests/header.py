@@ -20,7 +20,7 @@ LENT = re.compile(r"&(mut )?(\w+)")
 CONSTANTS = {
     "refusals/src/lib.rt": {f"ADSC_{name}": name for name in (
         "NOT_PERMITTED", "CANNOT_OCCUR", "BAD_SETTING", "ELAPSE_OVER", "OUT_OF_RANGE", "NO_ROOM", "CUT_SHORT", "ABOVE_RANGE", "EXTENSION_SET", "NOT_CARRIED",
-        "LIST_OVER", "FILLING", "OCTETS_AFTER", "NO_ELEMENT", "INPUT_OVER", "SCRIPT_LINE", "BAD_RECORD")},
+        "LIST_OVER", "FILLING", "OCTETS_AFTER", "NO_ELEMENT", "INPUT_OVER", "SCRIPT_LINE", "CHECK_WRONG", "OUT_OF_TURN", "NOT_READABLE", "BAD_RECORD")},
     "host_numbers/src/places.rt": {**{f"ADSC_{name}": name for name in (
         *("A_" + n for n in ("KIND", "WHAT", "DETAIL", "COUNT", "ELEMENTS", "SOUTH", "LATITUDE", "LATITUDE_MINUTES", "LATITUDE_TENTHS", "WEST", "LONGITUDE",
                              "LONGITUDE_MINUTES", "LONGITUDE_TENTHS", "LEVEL", "YEAR", "MONTH", "DAY", "HAS_SECONDS", "HOURS", "MINUTES", "SECONDS", "ACCURACY",
