@@ -1,5 +1,5 @@
 -- What the recorder wrote plays as the calls went (02, L6): "Reading a log and playing it gives the same state and the same actions as the calls did." Assumes nothing.
-use Prim.Native.Nat.{ℕ, zero, suc, _<_}
+use Prim.Native.Nat.{ℕ, zero, suc, _≤_, _<_}
 use mathlib.Core.Path.{_≡_, refl, sym, ap, _∙_}
 use mathlib.Core.Bool.{Bool, true, false}
 use mathlib.Core.List.{List, [], _∷_, _++_, append-nil}
@@ -20,8 +20,9 @@ use Rattle.link.specs.Names.{timers, EC, PC, of, no-request, DATA-REQUEST}
 use Rattle.link.specs.Watch.{settingOk, liIs}
 use Rattle.link.proofs.Laws.{T-eq, below-at, seconds-range, pick-case}
 use Rattle.ground_tables.specs.Names.{cancel, LI-IDLE, LI-START, LI-ACTIVE}
-use Rattle.octets.specs.Octets.{quads, words}
+use Rattle.octets.specs.Octets.{quads, words, Octets}
 use Rattle.octets.specs.laws.Numbers.{words-quads, length-quads}
+use Rattle.octets.specs.laws.Runs.{octets-take}
 use Rattle.ground_answer.specs.declared.record.Link.{Link}
 use Rattle.ground_answer.specs.declared.answer.Answer.{Answer}
 use Rattle.ground_answer.specs.Answers.{START-REQUEST, refusal}
@@ -39,13 +40,15 @@ use Rattle.ground.specs.declared.call.Call.the-variants.{Request, UserAbort, El
 use Rattle.script.specs.Lines.{callOf}
 use Rattle.bench_line.specs.Lines.{requestIn, octetsCall, numberCall}
 use Rattle.bench.specs.Replies.{readySetup}
-use Rattle.log.specs.Octets.{Octets}
 use Rattle.log.specs.Log.{All}
 use Rattle.log.specs.Log as log
 use Rattle.log.specs.Record.{Good, noted, formOne}
 use Rattle.log.specs.Play.{went, trace, play, playLog}
-use Rattle.log.proofs.Lists.{octets-take}
+use Rattle.log.specs.Block.{BLOCKS}
+use Rattle.log.specs.Tapes.{tape, recorder, noteAll, logOf}
+use Rattle.log.proofs.Packs.{held-all}
 use Rattle.log.proofs.Plays.{play-read}
+use Rattle.log.proofs.Recorders.{recorder-packs}
 use Rattle.log.proofs.Promises.{packed-reads}
 use Rattle.log_play.specs.Steps.{fieldIn, callIn, callStep, accepted, isSettings, openAnswer, openStep, stepOf}
 use Rattle.log_play.specs.Records.{recordOf, settingsRecord, recordsFrom, answersFrom, recordsOf, answersOf, Plain, Callable}
@@ -150,7 +153,7 @@ settings-back s n =
 
 opens : (s : List ℕ) → Settings s → accepted (openAnswer (opened s)) ≡ went (readySetup (fresh s)) (refusal (fresh s) 0)
 unfolding opened accepted
-opens s h = rw (T-eq _ (h .fine))
+opens s h = rw (T-eq (below timers (settingOk s)) (h .fine))
 
 pub settings-open : (s : List ℕ) → Settings s → stepOf blank (settingsRecord s) ≡ went (readySetup (fresh s)) (refusal (fresh s) 0)
 unfolding stepOf openStep isSettings settingsRecord
@@ -244,7 +247,18 @@ good-settings s h =
 pub records-play : (s : List ℕ) → Settings s → (cs : List Made) → All Callable cs → play stepOf blank (recordsOf s cs) ≡ log.got (answersOf s cs)
 records-play s h cs g = rw (settings-open s h, calls-play cs (fresh s) g)
 
-pub log-plays : (s : List ℕ) → Settings s → (cs : List Made) → All Callable cs → playLog stepOf formOne blank (log.pack formOne (recordsOf s cs)) ≡ log.got (answersOf s cs)
-log-plays s h cs g =
-    let rs = recordsOf s cs in
-    play-read stepOf formOne (log.pack formOne rs) 0 rs blank (packed-reads rs (good-settings s h, good-from cs (fresh s) g)) ∙ records-play s h cs g
+pub records-good : (s : List ℕ) → Settings s → (cs : List Made) → All Callable cs → All Good (recordsOf s cs)
+records-good s h cs g = (good-settings s h, good-from cs (fresh s) g)
+
+-- the log of them, in as many blocks as a log may have
+module _ (s : List ℕ) (h : Settings s) (cs : List Made) (g : All Callable cs) (few : length (log.pack formOne (recordsOf s cs)) ≤ BLOCKS) where
+  pub log-plays : playLog stepOf formOne blank (log.pack formOne (recordsOf s cs)) ≡ log.got (answersOf s cs)
+  log-plays =
+      let rs = recordsOf s cs in
+      play-read stepOf formOne (log.pack formOne rs) 0 rs blank (packed-reads rs (records-good s h cs g) few) ∙ records-play s h cs g
+
+  -- and what `append` and `finish` leave in a lent block is that log
+  pub recorder-plays : (b : List ℕ) → length b ≡ 512 → playLog stepOf formOne blank (logOf (noteAll (recorder (tape 0 0) b []) (recordsOf s cs))) ≡ log.got (answersOf s cs)
+  recorder-plays b n =
+      let rs = recordsOf s cs in
+      ap (playLog stepOf formOne blank) (recorder-packs rs b n (records-good s h cs g) ∙ ap (log.pack formOne) (held-all formOne rs few)) ∙ log-plays

@@ -8,15 +8,17 @@ use lib.Dec.{eqb, leb}
 use lib.ListN.{length, getD, take, drop}
 use Rattle.ground_answer.specs.declared.answer.Answer.{Answer}
 use Rattle.bench.specs.declared.reply.Setup.{Setup}
-use Rattle.log.specs.Octets.{pick, pairAt, wordAt}
-use Rattle.log.specs.Block.{judged, payload}
-use Rattle.log.specs.Log.{Read, got, bad, One, one, none, cut, onto, then, recordsIn, recordsOf, readBlock, unless}
+use Rattle.refusals.specs.Refusals.{NOT-READABLE}
+use Rattle.link.specs.Tests.{pick}
+use Rattle.octets.specs.Octets.{wordAt}
+use Rattle.log.specs.Block.{judged}
+use Rattle.log.specs.Log.{Read, got, bad, One, one, none, cut, onto, then, recordsIn, recordsOf, readBlock}
 use Rattle.log.specs.Record.{Rec, rec, recFirst, formOne}
 use Rattle.log.specs.Play.{Step, went, refused, Trace, behind, stepped, withRecords, play}
-use Rattle.log.specs.Tapes.{endOf, foundAt, from}
+use Rattle.log.specs.Places.{endOf, foundAt, from}
 use Rattle.log.specs.declared.Found.{Found}
-use Rattle.log.specs.declared.Found.the-variants.{Record, End, Short}
-use Rattle.log.proofs.Walks.{first-is, rest-same}
+use Rattle.log.specs.declared.Found.the-variants.{Record, End, Unreadable}
+use Rattle.log.proofs.Walks.{walk-end, walk-unreadable, walk-more, unread, all-read}
 use Rattle.log_play.specs.Steps.{stepOf, cameWith}
 use Rattle.log_play.specs.declared.block.Played.{Played}
 use Rattle.log_play.specs.declared.record.Stepped.{Stepped}
@@ -30,21 +32,21 @@ data-place b at k s a l x = go (eqb (length b) 512) (leb (endOf b) 510) (leb (en
     n : ℕ
     n = getD b (at + 5) 0
 
-    no-short : Short ≡ Record k s a l x → ⊥
-    no-short e = let z : _≡_ {A = ℕ} 0 1 = cc in omega arith
+    unread-not : Unreadable ≡ Record k s a l x → ⊥
+    unread-not e = let z : _≡_ {A = ℕ} 0 1 = cc in omega arith
 
     no-end : End ≡ Record k s a l x → ⊥
     no-end e = let z : _≡_ {A = ℕ} 0 1 = cc in omega arith
 
     go : (c d f g h i : Bool)
-        → pick c (pick d (pick f End (pick g (pick h (pick i (Record (getD b at 0) (wordAt b (at + 1)) (at + 6) n (at + 6 + n)) Short) Short) Short)) Short) Short ≡ Record k s a l x
+        → pick c (pick d (pick f End (pick g (pick h (pick i (Record (getD b at 0) (wordAt b (at + 1)) (at + 6) n (at + 6 + n)) Unreadable) Unreadable) Unreadable)) Unreadable) Unreadable ≡ Record k s a l x
         → x ≡ a + l
-    go false d f g h i e = absurd (no-short e)
-    go true false f g h i e = absurd (no-short e)
+    go false d f g h i e = absurd (unread-not e)
+    go true false f g h i e = absurd (unread-not e)
     go true true true g h i e = absurd (no-end e)
-    go true true false false h i e = absurd (no-short e)
-    go true true false true false i e = absurd (no-short e)
-    go true true false true true false e = absurd (no-short e)
+    go true true false false h i e = absurd (unread-not e)
+    go true true false true false i e = absurd (unread-not e)
+    go true true false true true false e = absurd (unread-not e)
     go true true false true true true e =
         let p : at + 6 ≡ a = cc in
         let q : n ≡ l = cc in
@@ -59,7 +61,7 @@ onto-bad r (bad i) e h = let z : i ≡ e = cc in ap bad z
 reads-20 : (k : ℕ) (p : List ℕ) (e : ℕ) → recordsIn formOne k p ≡ bad e → e ≡ 20
 reads-20 zero p e h = go (eqb (length p) 0) h
   where
-    go : (c : Bool) → _≡_ {A = Read (List Rec)} (pick c (got []) (bad 20)) (bad e) → e ≡ 20
+    go : (c : Bool) → _≡_ {A = Read (List Rec)} (pick c (got []) (bad NOT-READABLE)) (bad e) → e ≡ 20
     go true i = let z : _≡_ {A = ℕ} 0 1 = cc in absurd (omega arith)
     go false i = cc
 reads-20 (suc k) p e h = go (recFirst p) h (λ q. reads-20 k q e)
@@ -81,10 +83,10 @@ module _ (b : List ℕ) (at : ℕ) (h : length b ≡ 512) (room : endOf b ≤ 51
 
   pub turn-end : foundAt b at ≡ End → rest at s ≡ record { refusal = 0; setup = s }
   unfolding playedIn
-  turn-end e = ap (λ (y : Read (List Rec)). playedIn o (withRecords y (play stepOf s))) (first-is b at h room End e)
+  turn-end e = ap (λ (y : Read (List Rec)). playedIn o (withRecords y (play stepOf s))) (walk-end b at h room e)
 
-  pub turn-short : foundAt b at ≡ Short → rest at s ≡ playedIn o (bad 20)
-  turn-short e = ap (λ (y : Read (List Rec)). playedIn o (withRecords y (play stepOf s))) (first-is b at h room Short e)
+  pub turn-unreadable : foundAt b at ≡ Unreadable → rest at s ≡ playedIn o (bad NOT-READABLE)
+  turn-unreadable e = ap (λ (y : Read (List Rec)). playedIn o (withRecords y (play stepOf s))) (walk-unreadable b at h room e)
 
   module _ (k n a l x : ℕ) (e : foundAt b at ≡ Record k n a l x) where
     abbrev R : Rec
@@ -95,15 +97,14 @@ module _ (b : List ℕ) (at : ℕ) (h : length b ≡ 512) (room : endOf b ≤ 51
 
     one-more : rest at s ≡ playedIn o (withRecords (onto R tail) (play stepOf s))
     one-more =
-        ap (λ (y : Read (List Rec)). playedIn o (withRecords y (play stepOf s)))
-        (first-is b at h room (Record k n a l x) e ∙ ap (onto R) (rest-same b at h room k n a l x e))
+        ap (λ (y : Read (List Rec)). playedIn o (withRecords y (play stepOf s))) (walk-more b at h room k n a l x e)
 
-    pub turn-refused : steppedBy s R .went ≡ false → rest at s ≡ playedIn o (bad 20)
+    pub turn-refused : steppedBy s R .went ≡ false → rest at s ≡ playedIn o (bad NOT-READABLE)
     unfolding steppedBy stepIn recordsOf
     turn-refused f = one-more ∙ go (stepOf s R) refl f tail refl
       where
         go : (z : Step Setup Answer) → stepOf s R ≡ z → stepIn s (length (cameWith s R)) z .went ≡ false → (y : Read (List Rec)) → tail ≡ y
-            → playedIn o (withRecords (onto R y) (play stepOf s)) ≡ playedIn o (bad 20)
+            → playedIn o (withRecords (onto R y) (play stepOf s)) ≡ playedIn o (bad NOT-READABLE)
         go (went t w) i j y q = let u : _≡_ {A = ℕ} 0 1 = cc in absurd (omega arith)
         go refused i j (got rs) q = rw i
         go refused i j (bad m) q = ap (λ (u : ℕ). playedIn o (bad u)) (reads-20 (length (from b x)) (from b x) m q)
@@ -120,14 +121,24 @@ module _ (b : List ℕ) (at : ℕ) (h : length b ≡ 512) (room : endOf b ≤ 51
 
     -- the same of what the code gives, with the data where it stands
     part-same : take (x - a) (drop a b) ≡ take l (drop a b)
-    part-same = ap (λ (j : ℕ). take j (drop a b)) (omega (arith, data-place b at k n a l x e))
+    part-same = let n : x - a ≡ l = omega (arith, data-place b at k n a l x e) in ap (λ (j : ℕ). take j (drop a b)) n
 
     module _ (r : Stepped) (is : r ≡ steppedBy s (rec k n (take (x - a) (drop a b)))) where
       is-step : r ≡ steppedBy s R
       is-step = is ∙ ap (λ (y : List ℕ). steppedBy s (rec k n y)) part-same
 
-      pub turn-stays : r .went ≡ false → playedIn o (bad 20) ≡ rest at s
+      pub turn-stays : r .went ≡ false → playedIn o (bad NOT-READABLE) ≡ rest at s
       turn-stays f = sym (turn-refused (ap (λ (y : Stepped). y .went) (sym is-step) ∙ f))
 
       pub turn-goes : r .went ≡ true → rest x (r .setup) ≡ rest at s
       turn-goes f = ap (λ (y : Stepped). rest x (y .setup)) is-step ∙ sym (turn-went (ap (λ (y : Stepped). y .went) (sym is-step) ∙ f))
+
+-- ---- a whole block
+module _ (o : Setup) (n : ℕ) (b : List ℕ) where
+  pub block-refused : (e : ℕ) → e ≡ judged 0 n b → (e ≡ 0 → ⊥) → playedIn o (bad e) ≡ playedIn o (playBlock o n b)
+  unfolding playBlock
+  block-refused e j z = ap (λ (y : Read (List Rec)). playedIn o (withRecords y (play stepOf o))) (unread n b e j z)
+
+  pub block-read : judged 0 n b ≡ 0 → playedIn o (withRecords (recordsOf formOne (from b 6)) (play stepOf o)) ≡ playedIn o (playBlock o n b)
+  unfolding playBlock
+  block-read j = ap (λ (y : Read (List Rec)). playedIn o (withRecords y (play stepOf o))) (all-read n b j)

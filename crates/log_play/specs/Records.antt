@@ -6,7 +6,7 @@ use lib.Dec.{eqb}
 use Rattle.per.specs.Pdu.{encode}
 use Rattle.pdu.specs.UplinkTable.{groundC}
 use Rattle.link.specs.Tests.{pick}
-use Rattle.octets.specs.Octets.{quads}
+use Rattle.octets.specs.Octets.{quads, Octets}
 use Rattle.ground_answer.specs.declared.record.Link.{Link}
 use Rattle.ground_answer.specs.declared.answer.Answer.{Answer}
 use Rattle.ground_answer.specs.Answers.{refusal}
@@ -16,7 +16,6 @@ use Rattle.ground.specs.declared.call.Call.the-variants.{Request, UserAbort, El
 use Rattle.ground.specs.Runs.{Made, reply}
 use Rattle.bench.specs.Replies.{readySetup}
 use Rattle.bench.specs.declared.reply.Setup.{Setup}
-use Rattle.log.specs.Octets.{Octets}
 use Rattle.log.specs.Record.{Rec, rec, noted}
 use Rattle.log.specs.Play.{Trace, trace}
 

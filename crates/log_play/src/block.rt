@@ -4,10 +4,11 @@ use bench::reply::Setup;
 use log::Found;
 use log::check_block;
 use log::record_at;
+use refusals::NOT_READABLE;
 ghost use mathlib.Core.Path.{_≡_};
 ghost use Prim.Native.Nat.{_≤_};
 ghost use lib.ListN.{length};
-ghost use Rattle.log.specs.Tapes.{endOf, from};
+ghost use Rattle.log.specs.Places.{endOf, from};
 ghost use Rattle.log.specs.Log.{bad, recordsOf};
 ghost use Rattle.log.specs.Record.{formOne};
 ghost use Rattle.log.specs.Play.{withRecords, play};
@@ -46,7 +47,7 @@ fn walk(b: Setup, block: &[u8]) -> Played
             } => {
                 let s = play_record(setup, kind, seconds, &block[start..next]);
                 if !s.went {
-                    return unplayed(b, 20);
+                    return unplayed(b, NOT_READABLE);
                 }
                 setup = s.setup;
                 at = next;
@@ -54,12 +55,12 @@ fn walk(b: Setup, block: &[u8]) -> Played
             Found::End => {
                 return Played { refusal: 0, setup };
             }
-            Found::Short => {
-                return unplayed(b, 20);
+            Found::Unreadable => {
+                return unplayed(b, NOT_READABLE);
             }
         }
     }
-    unplayed(b, 20)
+    unplayed(b, NOT_READABLE)
 }
 
 // Block `number` of a log: the box after its records, or its refusal.

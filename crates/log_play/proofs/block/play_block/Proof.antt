@@ -1,31 +1,24 @@
+use mathlib.Core.Path.{sym, _∙_}
+use Rattle.log.proofs.Walks.{ready}
+use Rattle.log_play.proofs.Walks.{block-refused, block-read}
 use borrow.Author.Needs.{needs}
 use Rattle.log_play.proofs.block.play_block.Statement.{statement}
 use Rattle.log_play.proofs.block.play_block.Tie as tie
-use Rattle.log_play.proofs.block.play_block.Reads as reads
-use Rattle.log_play.proofs.block.play_block.Lts as lts
-use Rattle.log.proofs.check_block.Reads as check-block-reads
-use Rattle.log_play.proofs.block.unplayed.Reads as unplayed-reads
-use Rattle.log_play.proofs.block.walk.Reads as walk-reads
 
--- src/block.rt:69:9
 check-block-requires : tie.Need-check-block-requires
 check-block-requires c κs = search needs
 
--- src/block.rt:71:9
 unplayed-requires : tie.Need-unplayed-requires
 unplayed-requires c κs = search needs
 
--- src/block.rt:71:9
 returns : tie.Need-returns
-returns c = ?
+returns c = c .unplayed .ensures ∙ block-refused _ _ _ _ (c .before .before .check-block .ensures) (c .before .if1 .taken)
 
--- src/block.rt:73:5
 walk-requires : tie.Need-walk-requires
-walk-requires c κs = ?
+walk-requires c κs = ready _ _ (sym (c .before .check-block .ensures) ∙ c .if1 .left)
 
--- src/block.rt:66:1
 returns-2 : tie.Need-returns-2
-returns-2 c = ?
+returns-2 c = c .walk .ensures ∙ block-read _ _ _ (sym (c .before .before .check-block .ensures) ∙ c .before .if1 .left)
 
 pub play-block-spec : {M : Type 1} → statement M
 play-block-spec =

@@ -5,11 +5,11 @@ use borrow.Author.Tests.{not-true, not-false}
 use Rattle.log.specs.Log.{recordsOf}
 use Rattle.log.specs.Record.{formOne}
 use Rattle.log.specs.Play.{withRecords, play}
-use Rattle.log.specs.Tapes.{from}
+use Rattle.log.specs.Places.{from}
 use Rattle.log.proofs.Walks.{walk-on}
 use Rattle.log_play.specs.Steps.{stepOf}
 use Rattle.log_play.specs.Plays.{playedIn}
-use Rattle.log_play.proofs.Walks.{data-place, turn-end, turn-short, turn-stays, turn-goes}
+use Rattle.log_play.proofs.Walks.{data-place, turn-end, turn-unreadable, turn-stays, turn-goes}
 use borrow.Author.Needs.{needs}
 use Rattle.log_play.proofs.block.walk.Statement.{statement}
 use Rattle.log_play.proofs.block.walk.Tie as tie
@@ -110,7 +110,7 @@ returns-3 : tie.Need-returns-3 Inv-loop μ-loop
 returns-3 c = 
     let q = c .before .before .before .before .before .loop in
     let st = c .before .before .before .before .before .before .before in
-    c .unplayed2 .ensures ∙ sym (turn-short (st .args .block .now) (q .at) (st .pre .0) (st .pre .1) (st .args .b) (q .setup) (sym (c .before .before .before .record-at .ensures) ∙ c .before .enum-told2 .given .1)) ∙ q .inv .1
+    c .unplayed2 .ensures ∙ sym (turn-unreadable (st .args .block .now) (q .at) (st .pre .0) (st .pre .1) (st .args .b) (q .setup) (sym (c .before .before .before .record-at .ensures) ∙ c .before .enum-told2 .given .1)) ∙ q .inv .1
 
 unplayed-requires-3 : tie.Need-unplayed-requires-3 Inv-loop μ-loop
 unplayed-requires-3 c κs = search needs
