@@ -4,6 +4,7 @@ use mathlib.Core.Path.{_≡_, refl, sym, ap, _∙_}
 use mathlib.Core.Bool.{Bool, true, false}
 use mathlib.Core.List.{List, [], _∷_}
 use native.Mathlib.Omega.{arith}
+use borrow.Author.Tests.{leb-true}
 use lib.Dec.{eqb, leb}
 use lib.ListN.{length, getD, take, drop}
 use Rattle.ground_answer.specs.declared.answer.Answer.{Answer}
@@ -11,9 +12,9 @@ use Rattle.bench.specs.declared.reply.Setup.{Setup}
 use Rattle.refusals.specs.Refusals.{NOT-READABLE}
 use Rattle.link.specs.Tests.{pick}
 use Rattle.octets.specs.Octets.{wordAt}
-use Rattle.log.specs.Block.{judged}
-use Rattle.log.specs.Log.{Read, got, bad, One, one, none, cut, onto, then, recordsIn, recordsOf, readBlock}
-use Rattle.log.specs.Record.{Rec, rec, recFirst, formOne}
+use Rattle.log.specs.Block.{judged, payload}
+use Rattle.log.specs.Log.{Read, got, bad, One, one, none, cut, onto, then, recordsIn, recordsOf, readBlock, unless}
+use Rattle.log.specs.Record.{Rec, rec, KEPT, recFirst, formOne}
 use Rattle.log.specs.Play.{Step, went, refused, Trace, behind, stepped, withRecords, play}
 use Rattle.log.specs.Places.{endOf, foundAt, from}
 use Rattle.log.specs.declared.Found.{Found}
@@ -24,10 +25,10 @@ use Rattle.log_play.specs.declared.block.Played.{Played}
 use Rattle.log_play.specs.declared.record.Stepped.{Stepped}
 use Rattle.log_play.specs.Plays.{stepIn, steppedBy, playedIn, playBlock}
 
--- where a record's data stands
-pub data-place : (b : List ℕ) (at k s a l x : ℕ) → foundAt b at ≡ Record k s a l x → x ≡ a + l
+-- where a record's data stands, and that it is short
+pub data-place : (b : List ℕ) (at k s a l x : ℕ) → foundAt b at ≡ Record k s a l x → (x ≡ a + l) × (l ≤ KEPT)
 unfolding foundAt
-data-place b at k s a l x = go (eqb (length b) 512) (leb (endOf b) 510) (leb (endOf b) at) (leb (at + 6) (endOf b)) (leb n 129) (leb (at + 6 + n) (endOf b))
+data-place b at k s a l x = go (eqb (length b) 512) (leb (endOf b) 510) (leb (endOf b) at) (leb (at + 6) (endOf b)) (leb n 129) (leb (at + 6 + n) (endOf b)) refl
   where
     n : ℕ
     n = getD b (at + 5) 0
@@ -38,20 +39,20 @@ data-place b at k s a l x = go (eqb (length b) 512) (leb (endOf b) 510) (leb (en
     no-end : End ≡ Record k s a l x → ⊥
     no-end e = let z : _≡_ {A = ℕ} 0 1 = cc in omega arith
 
-    go : (c d f g h i : Bool)
+    go : (c d f g h i : Bool) → leb n KEPT ≡ h
         → pick c (pick d (pick f End (pick g (pick h (pick i (Record (getD b at 0) (wordAt b (at + 1)) (at + 6) n (at + 6 + n)) Unreadable) Unreadable) Unreadable)) Unreadable) Unreadable ≡ Record k s a l x
-        → x ≡ a + l
-    go false d f g h i e = absurd (unread-not e)
-    go true false f g h i e = absurd (unread-not e)
-    go true true true g h i e = absurd (no-end e)
-    go true true false false h i e = absurd (unread-not e)
-    go true true false true false i e = absurd (unread-not e)
-    go true true false true true false e = absurd (unread-not e)
-    go true true false true true true e =
+        → (x ≡ a + l) × (l ≤ KEPT)
+    go false d f g h i j e = absurd (unread-not e)
+    go true false f g h i j e = absurd (unread-not e)
+    go true true true g h i j e = absurd (no-end e)
+    go true true false false h i j e = absurd (unread-not e)
+    go true true false true false i j e = absurd (unread-not e)
+    go true true false true true false j e = absurd (unread-not e)
+    go true true false true true true j e =
         let p : at + 6 ≡ a = cc in
         let q : n ≡ l = cc in
         let r : at + 6 + n ≡ x = cc in
-        sym r ∙ omega (arith, p, q)
+        (sym r ∙ omega (arith, p, q), omega (arith, q, leb-true n KEPT j))
 
 -- a reading is refused with 20 alone
 onto-bad : (r : Rec) (y : Read (List Rec)) (e : ℕ) → onto r y ≡ bad e → y ≡ bad e
@@ -75,6 +76,10 @@ pub played-behind : (b : Setup) (l : List Answer) (x : Read (Trace Setup Answer)
 unfolding playedIn
 played-behind b l (got t) = refl
 played-behind b l (bad e) = refl
+
+behind-bad : (l : List Answer) (x : Read (Trace Setup Answer)) (e : ℕ) → behind l x ≡ bad e → x ≡ bad e
+behind-bad l (got t) e h = let z : _≡_ {A = ℕ} 0 1 = cc in absurd (omega arith)
+behind-bad l (bad i) e h = let z : i ≡ e = cc in ap bad z
 
 -- what is left of a block's play from a place on
 module _ (b : List ℕ) (at : ℕ) (h : length b ≡ 512) (room : endOf b ≤ 510) (o s : Setup) where
@@ -142,3 +147,24 @@ module _ (o : Setup) (n : ℕ) (b : List ℕ) where
   pub block-read : judged 0 n b ≡ 0 → playedIn o (withRecords (recordsOf formOne (from b 6)) (play stepOf o)) ≡ playedIn o (playBlock o n b)
   unfolding playBlock
   block-read j = ap (λ (y : Read (List Rec)). playedIn o (withRecords y (play stepOf o))) (all-read n b j)
+
+  -- a refusal has a number
+  pub refused-number : (e : ℕ) → playBlock o n b ≡ bad e → e ≡ 0 → ⊥
+  unfolding playBlock readBlock recordsOf
+  refused-number e = go (judged 0 n b)
+    where
+      played : (rs : List Rec) (s : Setup) → play stepOf s rs ≡ bad e → e ≡ 0 → ⊥
+      played [] s i z = let u : _≡_ {A = ℕ} 0 1 = cc in omega arith
+      played (r ∷ rs) s i z = step (stepOf s r) i (λ t. played rs t)
+        where
+          step : (x : Step Setup Answer) → stepped x (λ (t : Setup). play stepOf t rs) ≡ bad e → ((t : Setup) → play stepOf t rs ≡ bad e → e ≡ 0 → ⊥) → ⊥
+          step (went t a) j f = f t (behind-bad (a ∷ []) (play stepOf t rs) e j) z
+          step refused j f = let u : NOT-READABLE ≡ e = cc in omega (arith, u, z)
+
+      go : (k : ℕ) → withRecords (unless k (recordsIn formOne (length (payload b)) (payload b))) (play stepOf o) ≡ bad e → e ≡ 0 → ⊥
+      go zero i z = records (recordsIn formOne (length (payload b)) (payload b)) refl i z
+        where
+          records : (y : Read (List Rec)) → recordsIn formOne (length (payload b)) (payload b) ≡ y → withRecords y (play stepOf o) ≡ bad e → e ≡ 0 → ⊥
+          records (got rs) q i z = played rs o i z
+          records (bad m) q i z = let u : m ≡ e = cc in omega (arith, u, z, reads-20 (length (payload b)) (payload b) m q)
+      go (suc k) i z = let u : suc k ≡ e = cc in omega (arith, u, z)
