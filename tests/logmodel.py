@@ -60,6 +60,7 @@ class Rules:
     last: int = LAST
     first: int = 0                  # block
     numbered: int = 1               # the first line of a play
+    filling: bytes = b'\0'
     records: callable = lambda call, answer: answer.startswith('ok')        # "every accepted call"
     request: callable = lambda octets: written('ground', octets)            # "its written PDU"
     with_data: tuple = WITH_DATA
@@ -68,8 +69,6 @@ class Rules:
     shows_refused: bool = False     # the records of a refused block (G122: not)
     empty: int = 20                 # for a log that has no record (G87, G120)
     rest: int = 20                  # for octets that are no whole block (G88)
-    refused: str = 'refused {} block {}'
-    end: str = 'end {}'
 
 
 RULES = Rules()
@@ -91,7 +90,7 @@ def record_of(call, rules):
 
 
 def block_of(number, payload, rules=RULES):
-    octets = number.to_bytes(4, rules.order) + len(payload).to_bytes(2, rules.order) + payload.ljust(ROOM, b'\0')
+    octets = number.to_bytes(4, rules.order) + len(payload).to_bytes(2, rules.order) + payload.ljust(ROOM, rules.filling)
     return octets + rules.check(octets).to_bytes(2, rules.order)
 
 
@@ -189,14 +188,14 @@ class Reader:
         return int.from_bytes(block[4:HEAD], self.rules.order)
 
     def records(self, block):
-        return taken_apart(block[HEAD:HEAD + self.length(block)], self.rules.order)
+        return taken_apart(block[HEAD:HEAD + ROOM][:self.length(block)], self.rules.order)
 
     def word(self, record):
         return self.rules.kinds[record.kind] if record.kind < len(self.rules.kinds) else None
 
     def line(self, record):
         """The script line of a record's call."""
-        word = self.word(record) or 'none'
+        word = self.word(record)
         if word == 'set':
             numbers = [int.from_bytes(record.data[place:place + 4], self.rules.order) for place in range(0, len(record.data), 4)]
             return ' '.join([word, *map(str, numbers)]).encode()
@@ -205,12 +204,11 @@ class Reader:
         return f'{word} {record.data.hex()}'.rstrip().encode() if word in WITH_DATA else word.encode()
 
     def played(self, box, block):
-        """The answers; a refused one is the last."""
+        """The answers to records of a kind that there is; a refused one is the last."""
         answers = []
         for record in self.records(block):
-            answers.append(box.answer(self.line(record)))
-            if not answers[-1].startswith('ok'):
-                break
+            if self.word(record) and all(answer.startswith('ok') for answer in answers[-1:]):
+                answers.append(box.answer(self.line(record)))
         return answers
 
     def read(self, block):
@@ -231,19 +229,19 @@ def blocks_of(log):
 def verdict(reader, log):
     """The last line."""
     rules, (blocks, rest) = reader.rules, blocks_of(log)
-    for block in blocks:
+    for place, block in enumerate(blocks):
         number = reader.read(block)
         if number:
-            return rules.refused.format(number, reader.number - 1)
+            return f'refused {number} block {place}'
     if rest and rules.rest:
-        return rules.refused.format(rules.rest, len(blocks))
+        return f'refused {rules.rest} block {len(blocks)}'
     if not reader.answers and rules.empty:
-        return rules.refused.format(rules.empty, len(blocks))
-    return rules.end.format(len(reader.answers))
+        return f'refused {rules.empty} block {len(blocks)}'
+    return f'end {len(reader.answers)}'
 
 
-def play(log, rules=RULES):
-    reader = Reader(rules)
+def play(log, rules=RULES, made=Reader):
+    reader = made(rules)
     last = verdict(reader, log)
     answers = [f'{place} {answer}' for place, answer in enumerate(reader.answers, rules.numbered)]
     return '\n'.join(['adsc trace 1', *answers, last, '']).encode()
