@@ -74,12 +74,14 @@ def damages(rng, logs, count):
         yield Case('two grounds', 'adsplay', both(rng, rng.choice(logs)))
 
 
-def cases_of(rng, count, damage):
+def cases_of(rng, count, damage, places):
+    """places: whether each octet of a block is changed and a block cut at each."""
     maker = Scripts(rng)
     scripts = [b'', *(maker.script() for _ in range(count))]
     logs = [log for log in map(logmodel.log, scripts) if log]
     cases = [*(Case('script', 'adsclog', script) for script in scripts), *(Case('log', 'adsplay', log) for log in (b'', *logs))]
-    return scripts, cases + [*octets_changed(rng, logs), *cut(rng, logs), *damages(rng, logs, damage)]
+    cases += [*octets_changed(rng, logs), *cut(rng, logs)] if places else []
+    return scripts, cases + list(damages(rng, logs, damage))
 
 
 # What was met
@@ -151,17 +153,23 @@ def compare(command, scripts, cases, mutation):
     return 1 if found or faults else 0
 
 
+def stored_cases():
+    for _, log, _, script in logs.stored():
+        yield Case('stored', 'adsplay', log)
+        yield from [Case('stored', 'adsclog', script)] if script is not None else []
+
+
+def told_apart(functions, due):
+    """By the cases of a program whose function is changed."""
+    plain = {'adsclog': logmodel.log, 'adsplay': logmodel.play}
+    changed = [program for program, function in zip(plain, functions) if function is not plain[program]]
+    return any(model(case, functions) != text for case, text in due if case.program in changed)
+
+
 def mutate_all(cases):
-    """Each changed model against the plain one; a case that told one apart is tried first for the next."""
-    due = [(case, model(case)) for case in cases] + [(Case('stored', 'adsplay', log), play) for _, log, play, _ in logs.stored()]
-    due += [(Case('stored', 'adsclog', script), log) for _, log, _, script in logs.stored() if script is not None]
-    missed = []
-    for name, functions in MUTANTS.items():
-        place = next((place for place, (case, text) in enumerate(due) if model(case, functions) != text), None)
-        if place is None:
-            missed.append(name)
-        else:
-            due.insert(0, due.pop(place))
+    """Each changed model against the plain one, on what is stored and on the rest."""
+    due = [(case, model(case)) for case in [*stored_cases(), *cases]]
+    missed = [name for name, functions in MUTANTS.items() if not told_apart(functions, due)]
     print(f'changed models {len(MUTANTS)}, told apart {len(MUTANTS) - len(missed)}')
     for name in missed:
         print(f'not told apart: {name}')
@@ -192,7 +200,7 @@ def main():
         print('\n'.join(MUTANTS))
         return 0
     seed = random.SystemRandom().randrange(1 << 32) if options.seed is None else options.seed
-    scripts, cases = cases_of(random.Random(seed), options.count, options.damages)
+    scripts, cases = cases_of(random.Random(seed), options.count, options.damages, not options.mutate)
     print(f'seed {seed}' + (f', changed: {options.mutate}' if options.mutate else ''))
     print(f'scripts {len(scripts)}, logs {len(cases) - len(scripts)}, blocks {sum(len(case.data) // BLOCK for case in cases if case.what == "log")}')
     return mutate_all(cases) if options.mutate == 'all' else compare(command, scripts, cases, options.mutate)

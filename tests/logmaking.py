@@ -2,7 +2,8 @@
 
     Scripts(rng).script() -> script octets
     damaged(rng, name, log octets) -> log octets, or None where the log has not what the damage needs
-    DAMAGES: name -> the damage          GOOD: those after which the log still reads          both(rng, first, second, log)
+    both(rng, log) -> log octets with two grounds of refusal in one block
+    DAMAGES: name -> the damage          GOOD: those after which a log still reads          WRONG: those after which it does not
 """
 
 import linkscripts
@@ -198,7 +199,8 @@ def long_data(rng, record):
 
 def wrong_settings(rng, record):
     size = rng.choice((0, 1, 35, 33, 37, 40, 41, 72))
-    return [record[:5] + bytes([size]) + (record[6:] * 2)[:size]] if word_of(record) == 'set' else None
+    data = ((86400).to_bytes(4, 'big') * 18)[:size]     # of 35 octets too, the last number would be a setting
+    return [record[:5] + bytes([size]) + data] if word_of(record) == 'set' else None
 
 
 def bad_setting(rng, record):
