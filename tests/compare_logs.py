@@ -42,24 +42,22 @@ Case = collections.namedtuple('Case', 'what program data last', defaults=(None,)
 
 
 def chosen(rng, logs, blocks):
-    """A log of at least so many blocks."""
-    return rng.choice([log for log in logs if len(log) >= blocks * BLOCK])
+    """The first blocks of a log that has so many."""
+    return rng.choice([log for log in logs if len(log) >= blocks * BLOCK])[:blocks * BLOCK]
 
 
 def octets_changed(rng, logs):
-    for blocks in (1, 2, 3):
-        log = chosen(rng, logs, blocks)
-        at = len(log) // BLOCK - 1
-        for place in range(at * BLOCK, (at + 1) * BLOCK):
-            yield Case(f'octet {place % BLOCK} changed', 'adsplay', octet_changed(rng, log, place), f'refused 18 block {at}')
+    """Of each block of a log of three: what is before it is played."""
+    log = chosen(rng, logs, 3)
+    for place in range(3 * BLOCK):
+        yield Case(f'octet {place} changed', 'adsplay', octet_changed(rng, log, place), f'refused 18 block {place // BLOCK}')
 
 
 def cut(rng, logs):
     log = chosen(rng, logs, 2)
-    at = len(log) // BLOCK - 1
-    for length in range(at * BLOCK + 1, (at + 1) * BLOCK):
-        yield Case('cut', 'adsplay', log[:length], f'refused 20 block {at}')
-    yield Case('cut', 'adsplay', log[:at * BLOCK])
+    for length in range(BLOCK + 1, 2 * BLOCK):
+        yield Case('cut', 'adsplay', log[:length], 'refused 20 block 1')
+    yield Case('cut', 'adsplay', log[:BLOCK])
 
 
 def damages(rng, logs, count):
@@ -74,14 +72,19 @@ def damages(rng, logs, count):
         yield Case('two grounds', 'adsplay', both(rng, rng.choice(logs)))
 
 
-def cases_of(rng, count, damage, places):
-    """places: whether each octet of a block is changed and a block cut at each."""
+def stored():
+    for _, log, _, script in logs.stored():
+        yield Case('stored', 'adsplay', log)
+        yield from [Case('stored', 'adsclog', script)] if script is not None else []
+
+
+def cases_of(rng, count, damage, mutation):
+    """What is stored tells changed models apart, and is compared elsewhere; a changed octet or a cut tells none apart."""
     maker = Scripts(rng)
     scripts = [b'', *(maker.script() for _ in range(count))]
-    logs = [log for log in map(logmodel.log, scripts) if log]
-    cases = [*(Case('script', 'adsclog', script) for script in scripts), *(Case('log', 'adsplay', log) for log in (b'', *logs))]
-    cases += [*octets_changed(rng, logs), *cut(rng, logs)] if places else []
-    return scripts, cases + list(damages(rng, logs, damage))
+    made = [log for log in map(logmodel.log, scripts) if log]
+    cases = [*(Case('script', 'adsclog', script) for script in scripts), *(Case('log', 'adsplay', log) for log in (b'', *made))]
+    return scripts, [*(stored() if mutation else (*octets_changed(rng, made), *cut(rng, made))), *cases, *damages(rng, made, damage)]
 
 
 # What was met
@@ -98,15 +101,16 @@ def grounds_of(log):
 
 
 def unmet(cases):
-    """Each damage, and each ground alone, or with `refused_in_play` behind it: what cannot be read is not played either."""
+    """Each damage, and each ground of 19 and 20 alone, or with `refused_in_play` behind it: what cannot be read is not played either."""
     met = collections.Counter(case.what for case in cases)
     for case in cases:
         if case.program == 'adsplay' and case.what in DAMAGES:
             found = grounds_of(case.data)
             met.update([found[0]] if found and set(found[1:]) <= {'refused_in_play'} else [])
             met.update([f'{case.what} refused'] if found else [f'{case.what} good'])
-    due = [*DAMAGES, 'two grounds', *(name for name, _ in GROUNDS), *(f'{name} refused' for name in WRONG if name != 'no records'), *(f'{name} good' for name in GOOD)]
-    print('damages', sum(case.what in DAMAGES for case in cases), *(f'{name} {met[name]},' for name, _ in GROUNDS))
+    due = [*DAMAGES, 'two grounds', *(name for name, _ in GROUNDS[1:]), *(f'{name} refused' for name in WRONG if name != 'no records'),
+           *(f'{name} good' for name in GOOD)]
+    print('damages', sum(case.what in DAMAGES for case in cases), *(f'{name} {met[name]},' for name, _ in GROUNDS[1:]))
     return [name for name in due if met[name] < 2]
 
 
@@ -153,12 +157,6 @@ def compare(command, scripts, cases, mutation):
     return 1 if found or faults else 0
 
 
-def stored_cases():
-    for _, log, _, script in logs.stored():
-        yield Case('stored', 'adsplay', log)
-        yield from [Case('stored', 'adsclog', script)] if script is not None else []
-
-
 def told_apart(functions, due):
     """By the cases of a program whose function is changed."""
     plain = {'adsclog': logmodel.log, 'adsplay': logmodel.play}
@@ -167,8 +165,8 @@ def told_apart(functions, due):
 
 
 def mutate_all(cases):
-    """Each changed model against the plain one, on what is stored and on the rest."""
-    due = [(case, model(case)) for case in [*stored_cases(), *cases]]
+    """Each changed model against the plain one."""
+    due = [(case, model(case)) for case in cases]
     missed = [name for name, functions in MUTANTS.items() if not told_apart(functions, due)]
     print(f'changed models {len(MUTANTS)}, told apart {len(MUTANTS) - len(missed)}')
     for name in missed:
@@ -200,7 +198,7 @@ def main():
         print('\n'.join(MUTANTS))
         return 0
     seed = random.SystemRandom().randrange(1 << 32) if options.seed is None else options.seed
-    scripts, cases = cases_of(random.Random(seed), options.count, options.damages, not options.mutate)
+    scripts, cases = cases_of(random.Random(seed), options.count, options.damages, options.mutate)
     print(f'seed {seed}' + (f', changed: {options.mutate}' if options.mutate else ''))
     print(f'scripts {len(scripts)}, logs {len(cases) - len(scripts)}, blocks {sum(len(case.data) // BLOCK for case in cases if case.what == "log")}')
     return mutate_all(cases) if options.mutate == 'all' else compare(command, scripts, cases, options.mutate)

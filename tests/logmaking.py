@@ -150,19 +150,19 @@ def not_zero(rng, log):
     return place and patched(log, at, {place: bytes([rng.randint(1, 255)])})
 
 
-# Damage of records: (rng, blocks, block, place) -> blocks
+# Damage of records
 
 def changing(change):
-    """A damage of one record that is there."""
+    """A damage of one of the records that have what it needs."""
     def damage(rng, log):
         blocks = blocks_of(log)
         places = [(at, place) for at, block in enumerate(blocks) for place in range(len(block))]
-        at, place = rng.choice(places) if places else (0, 0)
-        new = change(rng, blocks[at][place]) if places else None
-        if new is None:
-            return None
-        blocks[at][place:place + 1] = new
-        return sealed(blocks)
+        for at, place in rng.sample(places, len(places)):
+            new = change(rng, blocks[at][place])
+            if new is not None:
+                blocks[at][place:place + 1] = new
+                return sealed(blocks)
+        return None
     return damage
 
 
@@ -252,12 +252,13 @@ def empty_block(rng, log):
     return sealed(blocks)
 
 
-def default_sent(rng, record):
-    """G92: a request as it may be sent, not as it is written."""
-    return [spelt(NUMBER['req'], 0, bytes.fromhex('640420'))] if record[6:] == bytes.fromhex('6000') and word_of(record) == 'req' else None
+def default_sent(rng, log):
+    """G92: a request as it may be sent, not as it is written, before all others."""
+    first, *rest = blocks_of(log)
+    return sealed([[first[0], spelt(NUMBER['req'], 0, bytes.fromhex('640420')), spelt(NUMBER['down']), *first[1:]], *rest])
 
 
-GOOD = {'packed loosely': packed_loosely, 'empty block': empty_block, 'default sent': changing(default_sent)}
+GOOD = {'packed loosely': packed_loosely, 'empty block': empty_block, 'default sent': default_sent}
 WRONG = {
     'number': number, 'block left out': block_left_out, 'block twice': block_twice, 'blocks exchanged': blocks_exchanged,
     'length over': length_over, 'full and over': full_and_over, 'length less': length_less, 'length more': length_more,
