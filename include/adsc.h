@@ -420,7 +420,7 @@ uint8_t adsc_block_open(uint8_t *block, size_t block_length, uint32_t number);
  * payload, zeros behind that, and length and check to it; a record is the kind, four octets of seconds, an octet of length, the data. Refuses, in this
  * order: 20 (a block that is not of 512 octets), 18 (its check is wrong), 5 (a kind over ADSC_CALL_DOWN; seconds not 0, where the call is no elapse; data,
  * where the call has none; settings that are not ADSC_SETTINGS_OCTETS octets), 6 (the payload and the record are over ADSC_PAYLOAD_MOST together). */
-uint8_t adsc_block_append(uint8_t *block, size_t block_length, uint8_t kind, uint32_t seconds, const uint8_t *data, size_t data_length);
+uint8_t adsc_block_append(uint8_t *block, size_t block_length, uint32_t kind, uint32_t seconds, const uint8_t *data, size_t data_length);
 
 /* Judges a block, which is to have this number, and plays its records on the link: the record is then as the calls had left it. A link record of 85 zeros is
  * one that has no settings yet, as before block 0. Refuses, in this order: 29 (a record that is neither good nor of zeros), 20 (a block that is not of 512
