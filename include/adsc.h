@@ -45,7 +45,7 @@ extern "C" {
 #define ADSC_PAYLOAD_MOST 504   /* of its records together, */
 #define ADSC_KEPT_MOST 129      /* of the data of a record: one more than reads, so that longer data gets the same answer */
 #define ADSC_SETTINGS_OCTETS 36 /* of the data of a settings record, exactly */
-#define ADSC_BLOCK_LAST 16777215 /* the number of the last block of a log */
+#define ADSC_BLOCKS_MOST 16777216 /* of a log: its block numbers are below */
 
 /* ---- refusals */
 
@@ -412,8 +412,8 @@ enum adsc_call {
     ADSC_CALL_DOWN = 10
 };
 
-/* An empty block of this number: number, zeros, check. Refuses: 5 (a number over ADSC_BLOCK_LAST: the log is at its end), 6 (a block that is not of 512
- * octets). */
+/* An empty block of this number: number, zeros, check. Refuses: 5 (a number not below ADSC_BLOCKS_MOST: the log is at its end), 6 (a block that is not of
+ * 512 octets). */
 uint8_t adsc_block_open(uint8_t *block, size_t block_length, uint32_t number);
 
 /* Records a call behind those that the block has. Seconds are those of an elapse, else 0. The block then has its number as before, the record behind its
@@ -424,7 +424,7 @@ uint8_t adsc_block_append(uint8_t *block, size_t block_length, uint32_t kind, ui
 
 /* Judges a block, which is to have this number, and plays its records on the link: the record is then as the calls had left it. A link record of 85 zeros is
  * one that has no settings yet, as before block 0. Refuses, in this order: 29 (a record that is neither good nor of zeros), 20 (a block that is not of 512
- * octets), 18, 19 (also where the number is over ADSC_BLOCK_LAST), 20: a payload length over ADSC_PAYLOAD_MOST, octets behind the payload that are not zero,
+ * octets), 18, 19 (also where the number is not below ADSC_BLOCKS_MOST), 20: a payload length over ADSC_PAYLOAD_MOST, octets behind the payload that are not zero,
  * and of each record that it does not lie in the payload wholly, a kind over ADSC_CALL_DOWN, data over ADSC_KEPT_MOST, seconds or data that its call does
  * not use, settings that are not the first record of the log or are not of ADSC_SETTINGS_OCTETS octets, another first record, a request that does not read,
  * a call that the link refuses. A block is played wholly or not at all. One without records is good and leaves the record. */

@@ -95,13 +95,15 @@ def block_of(number, payload, rules=RULES):
 
 
 def packed(records, rules=RULES):
-    """The payloads. "A record that doesn't fit opens the next block", and one that would open a block behind the last is not written (G98)."""
+    """The payloads. "A record that doesn't fit opens the next block"; one that would open a block behind the last is not written, nor any later (G98)."""
     payloads = []
     for record in records:
         if payloads and len(payloads[-1]) + len(record) <= rules.room:
             payloads[-1] += record
         elif len(payloads) <= rules.last:
             payloads.append(record)
+        else:
+            break
     return payloads
 
 

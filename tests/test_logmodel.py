@@ -59,14 +59,14 @@ def packing():
 
 
 def last_block():
-    """With 2 blocks at most in place of 2^24: what would open a third is not written, and a third is not read."""
+    """With 2 blocks at most in place of 2^24: what would open a third is not written, nor what comes later and had room, and a third is not read."""
     few = dataclasses.replace(RULES, last=1)
-    elapses = 'elapse 0\n' * (77 + 84)
-    script = (SET + elapses + 'elapse 5\n').encode()
+    elapses = 'elapse 0\n' * (77 + 83)
+    script = (SET + elapses + 'req 3000\nelapse 5\n').encode()
     CHECKS.check('a third block', len(log(script)), 3 * 512)
     CHECKS.check('no third block', log(script, few), log((SET + elapses).encode()))
     CHECKS.check('a third block read', ended(play(log(script), few)), 'refused 19 block 2')
-    CHECKS.check('two blocks read', ended(play(log(script)[:1024], few)), 'end 162')
+    CHECKS.check('two blocks read', ended(play(log(script)[:1024], few)), 'end 161')
 
 
 def turns():
