@@ -4,9 +4,11 @@ PROGRAM is run with `adsclog` or `adsplay` behind its words. What they write is 
 """
 import os
 import pathlib
+import re
 import subprocess
 import sys
 import tempfile
+import time
 
 import logmodel
 
@@ -28,13 +30,19 @@ def due_log(count):
     return payloads
 
 
-def run(command, source, target):
-    """Seconds of the processor and kilobytes of memory."""
-    with open(source, "rb") as data, open(target, "wb") as out:
-        child = subprocess.Popen(command, stdin=data, stdout=out)
+def run(command, data, target):
+    """Seconds of the processor, kilobytes of memory at most, exit status. Memory is looked up when all has come but the end: what wait4 gives has this
+    process's own in it, from before the program was there."""
+    with open(target, "wb") as out:
+        child = subprocess.Popen(command, stdin=subprocess.PIPE, stdout=out)
+        child.stdin.write(data)
+        child.stdin.flush()
+        time.sleep(0.1)
+        memory = re.search(r"VmHWM:\s*(\d+) kB", pathlib.Path(f"/proc/{child.pid}/status").read_text())
+        child.stdin.close()
         _, status, usage = os.wait4(child.pid, 0)
     child.returncode = status
-    return usage.ru_utime + usage.ru_stime, usage.ru_maxrss, status
+    return usage.ru_utime + usage.ru_stime, int(memory[1]), status
 
 
 def same_log(path, count):
@@ -56,9 +64,9 @@ def same_play(path, count):
 
 
 def measured(command, room, count):
-    lines, log, text = (pathlib.Path(room) / name for name in ("script", "log", "text"))
-    lines.write_bytes(script(count))
-    costs = {"adsclog": run([*command, "adsclog"], lines, log), "adsplay": run([*command, "adsplay"], log, text)}
+    log, text = (pathlib.Path(room) / name for name in ("log", "text"))
+    costs = {"adsclog": run([*command, "adsclog"], script(count), log)}
+    costs["adsplay"] = run([*command, "adsplay"], log.read_bytes(), text)
     good = all(status == 0 for _, _, status in costs.values()) and same_log(log, count) and same_play(text, count)
     if not good:
         print(f"{count} records: what was written is not what is due")
