@@ -1,11 +1,13 @@
 """A model of what include/adsc.h declares, on the lent buffers of a host, written from that header and pages 01 and 02 alone.
 
-It shares nothing with the box it is compared with: PDUs are those of percoder.py, the link is that of linkmodel.py.
+It shares nothing with the box it is compared with: PDUs are those of percoder.py, the link is that of linkmodel.py, blocks of the flight log are those of
+logmodel.py.
 
     answer(line) -> the text that is due to a line of the program hostcall:
 
 `WORD LINK OCTETS OUT N N ..` calls adsc_WORD on buffers of these octets (each field may be empty, its space stays) and numbers, and is
-answered with `NUMBER LENGTH LINK OUT`: the function's result, the length of a write (999 before the call), both lent buffers after it.
+answered with `NUMBER LENGTH LINK OUT`: the function's result, the length of a write (999 before the call), both lent buffers after it. For block_open and
+block_append LINK is the block, and the numbers are its number, or kind and seconds; for block_play OCTETS is the block, and the number is the one it is to have.
 """
 
 import dataclasses
@@ -14,6 +16,7 @@ import types
 from collections import namedtuple
 
 import linkmodel
+import logmodel
 import percoder
 from percoder import PRESENCE, TABLE
 
@@ -48,13 +51,18 @@ ACTIONS = {'start-req': 1, 'data-req': 2, 'end-req': 3, 'abort-req': 4, 'ind': 5
 # The functions, and what the calls on a record are called in a script.
 CALLS = {'request': 'req', 'user_abort': 'user-abort', 'elapse': 'elapse', 'start_confirm': 'start-cnf', 'start_rejected': 'start-rej',
          'data': 'data', 'end_confirm': 'end-cnf', 'peer_abort': 'peer-abort', 'air_abort': 'air-abort', 'down': 'down'}
-WORDS = ('write_ground', 'write_air', 'open', *CALLS)
-HEX = '((?:[0-9a-f]{2}){0,256})'
+BLOCKS = ('block_open', 'block_append', 'block_play')
+WORDS = ('write_ground', 'write_air', 'open', *CALLS, *BLOCKS)
+MOST_OCTETS = 520
+HEX = f'((?:[0-9a-f]{{2}}){{0,{MOST_OCTETS}}})'
 MOST_NUMBERS = 47
 LINE = re.compile(f'({"|".join(WORDS)}) {HEX} {HEX} {HEX}((?: {linkmodel.NUMBER}){{0,{MOST_NUMBERS}}})')
 
 # "Order. Calls: .. 29, 4, 1 or 2, then fields", and "6 last" (adsc.h). Each is a function of Calling.
 ORDER = ('bad_record', 'long_elapse', 'not_listed', 'bad_fields', 'no_room')
+# Of adsc_block_append and adsc_block_play, as adsc.h has them: functions of Appending and Playing.
+APPEND_ORDER = ('cut_short', 'check_wrong', 'bad_fields', 'no_room')
+PLAY_ORDER = ('bad_record', 'cut_short', 'judged')
 
 
 @dataclasses.dataclass(frozen=True)
@@ -76,6 +84,16 @@ class Rules:
     sizes: tuple = (LINK_OCTETS,)
     watch: tuple = linkmodel.RULES.watch
     order: tuple = ORDER
+    append_order: tuple = APPEND_ORDER
+    play_order: tuple = PLAY_ORDER
+    block: int = logmodel.BLOCK         # octets of a block
+    payload: int = logmodel.ROOM
+    kept_data: int = logmodel.KEPT
+    last_block: int = logmodel.LAST
+    settings_octets: int = logmodel.SETTINGS
+    behind: callable = lambda octets: bytes(len(octets))        # what stands behind the payload after an append
+    none: callable = lambda link: link == bytes(LINK_OCTETS)    # "A link record of 85 zeros is one that has no settings yet"
+    log: logmodel.Rules = logmodel.RULES
     room: int = ANSWER_OCTETS
     writer: type = percoder.Writer
     signed: tuple = SIGNED
@@ -338,6 +356,85 @@ def opened(link, out, numbers):
     return After(0, BEFORE, spelt(Record(numbers, [0] * TIMERS, [0] * len(STATES), [0] * len(INTERVALS))), out)
 
 
+# ---- the flight log
+
+def block_opened(block, out, numbers, rules):
+    number = numbers[0] if numbers else 0
+    if number > rules.last_block:
+        return After(5, BEFORE, block, out)
+    if len(block) != rules.block:
+        return After(6, BEFORE, block, out)
+    return After(0, BEFORE, logmodel.block_of(number, b''), out)
+
+
+class Appending:
+    """A record behind those of a block. Each refusal judges alone: their order is a table."""
+
+    def __init__(self, block, data, out, numbers, rules):
+        self.block, self.data, self.out, self.rules = block, data, out, rules
+        self.kind, self.seconds = (*numbers, 0, 0)[:2]
+        self.used = int.from_bytes(block[4:6], 'big')
+        self.size = logmodel.RECORD_HEAD + len(data[:rules.kept_data])
+
+    def cut_short(self):
+        return 20 if len(self.block) != self.rules.block else 0
+
+    def check_wrong(self):
+        return 18 if int.from_bytes(self.block[510:512], 'big') != self.rules.log.check(self.block) else 0
+
+    def bad_fields(self):
+        """"5 (a kind over ADSC_CALL_DOWN; seconds not 0, where the call is no elapse; data, where the call has none; settings that are not
+        ADSC_SETTINGS_OCTETS octets)" """
+        word = named(self.rules.log.kinds, self.kind)
+        unused = self.seconds and word != 'elapse' or self.data and word not in self.rules.log.with_data
+        wrong = word == 'set' and len(self.data) != self.rules.settings_octets
+        return 5 if word == 'nothing' or unused or wrong else 0
+
+    def no_room(self):
+        return 6 if self.used + self.size > self.rules.payload else 0
+
+    def refusals(self):
+        return [number for number in (getattr(self, judge)() for judge in self.rules.append_order) if number]
+
+    def made(self):
+        refused = self.refusals()
+        if refused:
+            return After(refused[0], BEFORE, self.rules.left_as('link', self.block), self.rules.left_as('out', self.out))
+        data = self.data[:self.rules.kept_data]
+        record = bytes([self.kind]) + self.seconds.to_bytes(4, 'big') + bytes([len(data)]) + data
+        payload = self.block[6:6 + self.used] + record
+        octets = self.block[:4] + len(payload).to_bytes(2, 'big') + payload + self.rules.behind(self.block[6 + len(payload):510])
+        return After(0, BEFORE, octets + self.rules.log.check(octets).to_bytes(2, 'big'), self.out)
+
+
+class Playing:
+    """A block judged and played on a record."""
+
+    def __init__(self, link, block, out, numbers, rules):
+        self.link, self.block, self.out, self.rules = link, block, out, rules
+        self.reader = logmodel.Reader(rules.log)
+        self.reader.number = numbers[0] if numbers else 0
+        if not rules.none(link) and not grounds(link, rules):
+            self.reader.box.link = link_of(taken_apart(link, rules))
+
+    def bad_record(self):
+        return 29 if not self.rules.none(self.link) and grounds(self.link, self.rules) else 0
+
+    def cut_short(self):
+        return 20 if len(self.block) != self.rules.block else 0
+
+    def judged(self):
+        return self.reader.read(self.block)
+
+    def made(self):
+        for judge in self.rules.play_order:
+            number = getattr(self, judge)()
+            if number:
+                return After(number, BEFORE, self.rules.left_as('link', self.link), self.rules.left_as('out', self.out))
+        link = self.reader.box.link
+        return After(0, BEFORE, spelt(record_of(link), self.rules) if link else self.link, self.out)
+
+
 # ---- lines
 
 def parts(line):
@@ -357,6 +454,12 @@ def call(word, link, octets, out, numbers, rules=RULES):
         return write('air', air_value(numbers, octets, rules), link, out, rules)
     if word == 'open':
         return opened(link, out, numbers)
+    if word == 'block_open':
+        return block_opened(link, out, numbers, rules)
+    if word == 'block_append':
+        return Appending(link, octets, out, numbers, rules).made()
+    if word == 'block_play':
+        return Playing(link, octets, out, numbers, rules).made()
     return Calling(word, link, octets, out, numbers, rules).made()
 
 

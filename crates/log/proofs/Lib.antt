@@ -1,6 +1,7 @@
 pub mod Tests
 pub mod Blocks
 pub mod Packs
+pub mod Fewest
 pub mod Plays
 pub mod FormOne
 pub mod Checks

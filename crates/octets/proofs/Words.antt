@@ -1,12 +1,12 @@
 -- Octets that are not there, and stores one after another. Assumes nothing.
 use Prim.Native.Nat.{ℕ, suc, _+_, _-_, _≤_, _<_}
-use mathlib.Core.Path.{_≡_, refl, sym, ap, _∙_}
+use mathlib.Core.Path.{_≡_, refl, ap, _∙_}
 use mathlib.Core.List.{List, [], _∷_}
 use native.Mathlib.Omega.{arith}
 use native.Mathlib.Numerals.{add-one}
 use lib.ListN.{length, getD, drop, set, List·getD-eq-default, drop-of-length-le}
 use lib.Seq.{sets, set-out}
-use Rattle.octets.specs.Octets.{pair, pairAt, quad, wordAt, zeros}
+use Rattle.octets.specs.Octets.{pairAt, wordAt, zeros}
 use Rattle.octets.specs.laws.Numbers.{next}
 
 pub pair-out : (s : List ℕ) (at : ℕ) → length s ≤ at → 0 ≡ pairAt s at

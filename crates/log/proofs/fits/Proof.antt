@@ -1,7 +1,6 @@
 use mathlib.Core.Path.{refl}
 use native.Mathlib.Omega.{arith}
 use Rattle.log.proofs.Seals.{no-size, no-payload, no-number}
-use borrow.Author.Needs.{needs}
 use Rattle.log.proofs.fits.Statement.{statement}
 use Rattle.log.proofs.fits.Tie as tie
 
