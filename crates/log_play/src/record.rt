@@ -22,7 +22,7 @@ ghost use Rattle.log_play.specs.Steps.{fieldIn, accepted, callStep, call
 ghost use Rattle.log_play.specs.Plays.{stays, stepIn, steppedBy};
 
 // The octets of a settings record: those with which a link record begins.
-const SETTINGS: usize = 36;
+pub const SETTINGS: usize = 36;
 
 // Whether a record `went`, the box after it, what was said, and how many octets of its data came with the call.
 pub struct Stepped {
@@ -65,7 +65,7 @@ fn accept(b: Setup, a: Answer, came: usize) -> Stepped
 }
 
 // What a record has for a word that may be followed so. A field that its call does not use is to be empty.
-fn hold_record(shape: u8, seconds: u32, octets: &[u8]) -> Held
+pub fn hold_record(shape: u8, seconds: u32, octets: &[u8]) -> Held
     ensures { λ r. ⌜ heldIn r (now (octets .entry)) ≡ fieldIn shape seconds (now (octets .entry)) ⌝ }
 {
     if shape == NUMBER {
