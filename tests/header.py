@@ -35,6 +35,7 @@ CONSTANTS = {
                                                  "TEMPERATURE", "TURBULENCE")},
         "ADSC_URGENT_HAS_ADDRESS": "EMERGENCY_ADDRESS", "ADSC_URGENT_HAS_GROUND_VECTOR": "EMERGENCY_GROUND_VECTOR", "ADSC_ON_WAYPOINT_CHANGE": "WAYPOINT_CHANGE", "ADSC_ON_MERIT_CHANGE": "MERIT_CHANGE"},
     "log/src/lib.rt": {"ADSC_BLOCK_OCTETS": "BLOCK", "ADSC_PAYLOAD_MOST": "ROOM", "ADSC_KEPT_MOST": "KEPT", "ADSC_BLOCKS_MOST": "BLOCKS"},
+    "log_play/src/record.rt": {"ADSC_SETTINGS_OCTETS": "SETTINGS"},
     "host_record/src/record.rt": {"ADSC_LINK_OCTETS": "RECORD"},
     "host_record/src/answer.rt": {"ADSC_ANSWER_OCTETS": "ANSWER"},
     "ground_answer/src/answer.rt": {"ADSC_START_REQUEST": "START_REQUEST", "ADSC_END_REQUEST": "END_REQUEST", "ADSC_LATE": "LATE"},

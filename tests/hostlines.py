@@ -520,19 +520,14 @@ def moved(line, answer):
 
 BLOCK_SIZES = (0, 1, 510, 511, 513, 520)
 BLOCK_NUMBERS = (0, 1, 255, 256, 65536, logmodel.LAST - 1, logmodel.LAST, logmodel.LAST + 1, 1 << 25, TOP - 1)
-KINDS_GIVEN = (*range(13), 255, 256, 262, TOP - 1)          # 262 is a kind in its low octet
+KINDS_GIVEN = (*range(13), 255, 256, 262, TOP - 1)          # a kind is one octet: 262 is 6
 DATA_SIZES = (0, 1, 2, 35, 36, 37, 127, 128, 129, 130, 131, 255, 256, 300)
 # How many octets of room are left where the record is put, more than it needs.
 ROOMS = (-6, -1, 0, 1, 100)
 
 
-def resealed(block):
-    """A block with its check made right."""
-    return block[:510] + logmodel.check(block).to_bytes(2, 'big')
-
-
 class Blocks:
-    """Lines for block_open, block_append and block_play."""
+    """Lines for block_open, block_append, block_finish and block_play."""
 
     def __init__(self, rng):
         self.rng, self.met, self.lines, self.scripts = rng, collections.Counter(), [], logmaking.Scripts(rng)
@@ -553,12 +548,13 @@ class Blocks:
     # A record more
 
     def block(self, used):
-        """A block whose payload has so many octets of any kind, and zeros behind."""
-        return logmodel.block_of(self.rng.choice((0, 1, 77, logmodel.LAST)), self.rng.randbytes(used))
+        """A block whose payload has so many octets of any kind, finished or with anything behind."""
+        block = logmodel.block_of(self.rng.choice((0, 1, 77, logmodel.LAST)), self.rng.randbytes(used))
+        return self.rng.choice((block, block[:6 + used] + self.rng.randbytes(506 - used)))
 
     def fields(self, kind):
         """Seconds and data that the call of a kind has."""
-        word = logmodel.KINDS[kind] if kind < len(logmodel.KINDS) else None
+        word = hostmodel.named(logmodel.KINDS, kind % 256)
         sizes = (36,) if word == 'set' else DATA_SIZES if word in logmodel.WITH_DATA else (0,)
         return self.rng.choice((0, 1, 86400, TOP - 1)) if word == 'elapse' else 0, self.rng.randbytes(self.rng.choice(sizes))
 
@@ -569,17 +565,13 @@ class Blocks:
         self.add(name, 'block_append', spoil(block) if spoil else block, data, [kind, seconds])
 
     def spoils(self):
-        """Blocks that are refused, and some that are not what open and append make."""
-        flip = lambda block, place, octet: block[:place] + bytes([block[place] ^ octet]) + block[place + 1:]
-        yield 'check high', lambda block: flip(block, 510, self.rng.randint(1, 255))
-        yield 'check low', lambda block: flip(block, 511, self.rng.randint(1, 255))
-        yield 'an octet changed', lambda block: flip(block, self.rng.randrange(510), self.rng.randint(1, 255))
+        """Blocks that adsc_block_open has not made, and some that it could have."""
         for size in BLOCK_SIZES:
             yield f'{size} octets', lambda block, size=size: (block + bytes(8))[:size]
-        for length in (505, 510, 1000, 65535):
-            yield f'length {length}', lambda block, length=length: resealed(block[:4] + length.to_bytes(2, 'big') + block[6:])
-        yield 'not zero behind', lambda block: resealed(block[:300] + self.rng.randbytes(210) + block[510:])
-        yield 'any number', lambda block: resealed(self.rng.randbytes(4) + block[4:])
+        for length in (504, 505, 510, 1000, 65535):
+            yield f'length {length}', lambda block, length=length: block[:4] + length.to_bytes(2, 'big') + block[6:]
+        for number in BLOCK_NUMBERS:
+            yield f'block {number}', lambda block, number=number: number.to_bytes(4, 'big') + block[4:]
 
     def appending(self):
         for kind in KINDS_GIVEN:
@@ -595,6 +587,27 @@ class Blocks:
         for name, spoil in self.spoils():
             for kind, seconds, data in ((3, 5, b''), (6, 0, b'abc'), (6, 1, b'abc'), (11, 0, b'')):
                 self.append(name, kind, seconds, data, self.rng.choice((None, None, -1)), spoil)
+
+    def finishing(self):
+        for used in (0, 1, 6, 250, 503, 504):
+            self.add(f'finish {used}', 'block_finish', self.block(used), b'', [])
+        for name, spoil in self.spoils():
+            self.add(f'finish {name}', 'block_finish', spoil(self.block(self.rng.choice((0, 6, 504)))), b'', [])
+
+    def keeping(self):
+        """A block opened, records appended, finished, played: each call on what the one before has left."""
+        log = self.logs()
+        first, at = log[:512], 6
+        block = hostmodel.call('block_open', bytes(512), b'', b'', [0]).link
+        while at < 6 + int.from_bytes(first[4:6], 'big'):
+            kind, seconds, size = first[at], int.from_bytes(first[at + 1:at + 5], 'big'), first[at + 5]
+            data, at = first[at + 6:at + 6 + size], at + 6 + size
+            self.add('keep', 'block_append', block, data, [kind, seconds])
+            block = hostmodel.call('block_append', block, data, b'', [kind, seconds]).link
+        self.add('keep', 'block_finish', block, b'', [])
+        block = hostmodel.call('block_finish', block, b'', b'', []).link
+        self.met['kept as the log has it'] += block == first
+        self.add('keep', 'block_play', bytes(LINK_OCTETS), block, [0])
 
     # Play
 
@@ -647,6 +660,8 @@ class Blocks:
         while len(self.lines) < count:
             self.opening()
             self.appending()
+            self.finishing()
+            self.keeping()
             self.playing(list(Records(self.rng).steps())[::9])
         return self.lines, self.met
 
@@ -657,10 +672,10 @@ def blocks(rng, count):
 
 # ---- what has to be met
 
-BLOCKS_DUE = ([f'{word} {number}' for word, numbers in (('block_open', (0, 5, 6)), ('block_append', (0, 20, 18, 5, 6)), ('block_play', (0, 29, 20, 18, 19)))
+BLOCKS_DUE = ([f'{word} {number}' for word, numbers in (('block_open', (0, 5, 6)), ('block_append', (0, 20, 5, 6)), ('block_finish', (0, 20)), ('block_play', (0, 29, 20, 18, 19)))
                for number in numbers]
               + [f'room {room}: {"refused" if room < 0 else "accepted"}' for room in ROOMS] + [f'room {room}, out of order: refused' for room in ROOMS]
-              + [f'kind {kind}: {"accepted" if kind <= 10 else "refused"}' for kind in KINDS_GIVEN]
+              + [f'kind {kind}: {"accepted" if kind % 256 <= 10 else "refused"}' for kind in KINDS_GIVEN] + ['kept as the log has it']
               + [f'kind {kind} with seconds: {"accepted" if kind == 3 else "refused"}' for kind in KINDS_GIVEN]
               + [f'play: {name}: refused' for name in logmaking.WRONG if name != 'no records'] + [f'play: {name}: accepted' for name in logmaking.GOOD]
               + [f'play {number}: {"accepted" if number <= logmodel.LAST else "refused"}' for number in BLOCK_NUMBERS]

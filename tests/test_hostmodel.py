@@ -224,30 +224,42 @@ def not_kept(what, number, link, call, data=''):
 
 
 EMPTY, SETTINGS = block(0, '', 1), block(0, '00 00000000 24' + '0000003c' * 9, 1 + 42 * 6 + 36 * 12 + 60 * 288)
-check('block 0', f'block_open {ANY}  77 0', f'0 999 {EMPTY} 77')
-check('block 1', f'block_open {ANY}   1', '0 999 ' + block(1, '', 1 + 4) + ' ')
-check('the last block', f'block_open {ANY}   16777215', '0 999 ' + block(0xffffff, '', 1 + 255 * 9) + ' ')
+check('block 0', f'block_open {ANY}  77 0', f'0 999 {block(0)} 77')
+check('block 1', f'block_open {ANY}   1', f'0 999 {block(1)} ')
+check('the last block', f'block_open {ANY}   16777215', f'0 999 {block(0xffffff)} ')
 check('no block behind it', f'block_open {ANY}   16777216', f'5 999 {ANY} ')
 check('a block of 511', f'block_open {ANY[2:]}   0', f'6 999 {ANY[2:]} ')
 check('5 before 6', f'block_open {ANY}a5   4294967295', f'5 999 {ANY}a5 ')
-kept('settings', EMPTY, '0 0', SETTINGS, '0000003c' * 9)
-kept('seconds', EMPTY, '3 258', block(0, '03 00000102 00', 1 + 6 * 6 + 3 * 7 + 1 * 10 + 2 * 11))
-kept('data', block(1, '', 5), '6 0', block(1, '06 00000000 02 2130', 1 + 4 + 8 * 6 + 6 * 7 + 2 * 12 + 0x21 * 13 + 0x30 * 14), '2130')
-kept('the first 129 octets', EMPTY, '9 0', block(0, '09 00000000 81' + '00' * 129, 1 + 135 * 6 + 9 * 7 + 129 * 12), '00' * 129 + 'ff')
-kept('behind another', block(0, '0a 00000000 00', 1 + 6 * 6 + 10 * 7), '7 0', block(0, '0a 00000000 00 07 00000000 00', 1 + 12 * 6 + 10 * 7 + 7 * 13))
-kept('zeros behind it', block(0, '00' * 503 + '01', 1 + 510, 0), '2 0', block(0, '02 00000000 00', 1 + 6 * 6 + 2 * 7))
-FULL = block(0, '00' * 498, 1 + 1 * 5 + 0xf2 * 6)
-kept('to the last octet', FULL, '10 0', block(0, '00' * 498 + '0a 00000000 00', 1 + 1 * 5 + 0xf8 * 6 + 10 * 505))
+kept('settings', block(0), '0 0', block(0, '00 00000000 24' + '0000003c' * 9), '0000003c' * 9)
+kept('seconds', block(0), '3 258', block(0, '03 00000102 00'))
+kept('data', block(1), '6 0', block(1, '06 00000000 02 2130'), '2130')
+kept('the first 129 octets', block(0), '9 0', block(0, '09 00000000 81' + '00' * 129), '00' * 129 + 'ff')
+kept('behind another', block(0, '0a 00000000 00'), '7 0', block(0, '0a 00000000 00 07 00000000 00'))
+kept('the check stays', block(0, '', 1), '7 0', block(0, '07 00000000 00', 1))
+kept('what stands behind stays', block(0, '00' * 503 + '01', 0, 0), '2 0', block(0, '02 00000000 00' + '00' * 497 + '01', 0, 6))
+kept('in the last block', block(0xffffff), '2 0', block(0xffffff, '02 00000000 00'))
+kept('a kind is an octet', block(0), '266 0', block(0, '0a 00000000 00'))
+FULL = block(0, '00' * 498)
+kept('to the last octet', FULL, '10 0', block(0, '00' * 498 + '0a 00000000 00'))
 not_kept('one octet more', 6, FULL, '6 0', '00')
-not_kept('a payload of 505', 6, block(0, '', 1 + 1 * 5 + 0xf9 * 6, 505), '2 0')
-for what, call, data in (('kind 11', '11 0', ''), ('a kind by its low octet', '262 0', ''), ('seconds of data', '6 1', '00'), ('data of an elapse', '3 1', '00'),
+for what, call, data in (('kind 11', '11 0', ''), ('kind 255', '255 0', ''), ('seconds of data', '6 1', '00'), ('data of an elapse', '3 1', '00'),
                          ('data of down', '10 0', '00'), ('35 octets of settings', '0 0', '00' * 35), ('37', '0 0', '00' * 37), ('no settings', '0 0', '')):
     not_kept(what, 5, EMPTY, call, data)
     not_kept(f'{what}, before 6', 5, FULL, call, data)
-not_kept('18 before 5', 18, block(0, '', 2), '11 0')
-not_kept('65,521 for 0', 18, block(0, '00' * 235 + '01' + '00' * 14 + 'fe', 1 + 242 + 254 * 257, 0), '2 0')
-not_kept('20 before 18', 20, block(0, '', 2)[2:], '11 0')
-not_kept('513 octets', 20, EMPTY + '00', '2 0')
+for what, octets in (('511 octets', EMPTY[2:]), ('513 octets', EMPTY + '00'), ('a payload of 505', block(0, '', 0, 505)), ('a block behind the last', block(1 << 24))):
+    not_kept(what, 20, octets, '2 0')
+    not_kept(f'{what}, before 5', 20, octets, '11 0')
+    check(f'{what}, finished', f'block_finish {octets}  ', f'20 999 {octets} ')
+for what, before, after in (
+        ('of nothing', block(0, '', 77), EMPTY),
+        ('of another number', block(1), block(1, '', 1 + 4)),
+        ('of the last number', block(0xffffff), block(0xffffff, '', 1 + 255 * 9)),
+        ('of settings', block(0, '00 00000000 24' + '0000003c' * 9), SETTINGS),
+        ('of two records', block(0, '0a 00000000 00 07 00000000 00'), block(0, '0a 00000000 00 07 00000000 00', 1 + 12 * 6 + 10 * 7 + 7 * 13)),
+        ('with zeros behind', block(0, '02 00000000 00' + 'a5' * 498, 0, 6), block(0, '02 00000000 00', 1 + 6 * 6 + 2 * 7)),
+        ('of 504 octets', block(0, '00' * 498 + '0a 00000000 00'), block(0, '00' * 498 + '0a 00000000 00', 1 + 1 * 5 + 0xf8 * 6 + 10 * 505)),
+        ('again', SETTINGS, SETTINGS)):
+    check(f'a block {what}', f'block_finish {before}  77', f'0 999 {after} 77')
 
 REQUEST = block(1, '01 00000000 02 3000', 1 + 4 + 8 * 6 + 7 + 2 * 12 + 0x30 * 13)
 check('settings played', f'block_play {ZEROS} {SETTINGS}  0', f'0 999 {FRESH} ')
