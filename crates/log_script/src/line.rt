@@ -6,10 +6,11 @@ use bench_line::settings::parse_settings;
 use ground::call::Call;
 use ground::call::answer;
 use ground_answer::fresh::open;
-use ground_answer::sent::write;
 use host_record::record::save;
 use octets::put_octets;
+use pdu::encode_ground;
 use pdu::uplink::Ground;
+use per::pen::Written;
 use script::line::set_part;
 use text::least;
 ghost use mathlib.Core.Path.{_≡_};
@@ -77,12 +78,11 @@ fn seconds_of(call: Call) -> u32
 
 // The written PDU of a request comes to the front of the octets.
 fn put_request(g: Ground, octets: &mut [u8]) -> usize {
-    let w = write(g);
-    let sent = w.sent;
-    let list = sent.octets;
-    let n = least(sent.n, 8);
-    put_octets(octets, 0, &list[..n]);
-    n
+    let w = encode_ground(g, octets);
+    match w {
+        Written::Octets(n) => n,
+        Written::Refused(_) => 0,
+    }
 }
 
 // The data of a call, beside which n octets stand, come to the front of them.
@@ -140,7 +140,7 @@ fn hear_settings(b: Setup, tail: &[u8], octets: &mut [u8]) -> Entry {
     let link = o.link;
     let mut record = [0u8; 85];
     save(link, &mut record);
-    put_octets(octets, 0, &record[..SETTINGS]);
+    put_octets(octets, 0, &record);
     Entry {
         setup: Setup { ready: true, link },
         kept: true,
