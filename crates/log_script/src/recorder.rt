@@ -117,7 +117,13 @@ pub struct Recorded {
 }
 
 // Records every line of the input. A proved loop has to end, so it counts down from a number that no run uses up.
-fn run(r: Recorder, chunk: &mut [u8], line: &mut [u8], block: &mut [u8], out: &mut [u8]) -> Recorded {
+fn run(
+    r: Recorder,
+    chunk: &mut [u8],
+    line: &mut [u8],
+    block: &mut [u8],
+    out: &mut [u8],
+) -> Recorded {
     let mut e = r;
     let mut input = start();
     let mut turns: u64 = 18446744073709551615;
@@ -159,10 +165,7 @@ pub fn record() {
     let link = idle_link([0; TIMERS]);
     let r = Recorder {
         setup: Setup { ready: false, link },
-        tape: Tape {
-            number: 0,
-            used: 0,
-        },
+        tape: Tape { number: 0, used: 0 },
         at: 0,
         full: false,
         ended: false,

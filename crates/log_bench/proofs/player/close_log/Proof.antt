@@ -18,9 +18,9 @@ same-length c = search needs
 returns-2 : tie.Need-returns-2
 unfolding lastLine
 returns-2 c = λ b. record {
-      failed-is = rw (c .before .before .before .before .before .if1 .left) (c .before .before .close .ensures .failed-is);
-      text-is = rw (c .before .before .before .before .before .if1 .left, eq-eqb _ 0 (c .before .before .before .before .if2 .taken)) (c .before .before .close .ensures .text-is);
-    }
+  failed-is = rw (c .before .before .before .before .before .if1 .left) (c .before .before .close .ensures .failed-is);
+  text-is = rw (c .before .before .before .before .before .if1 .left, eq-eqb _ 0 (c .before .before .before .before .if2 .taken)) (c .before .before .close .ensures .text-is);
+}
 
 put-refused-requires : tie.Need-put-refused-requires
 put-refused-requires c κs = search needs
@@ -43,9 +43,9 @@ same-length-2 c = search needs
 returns-3 : tie.Need-returns-3
 unfolding lastLine
 returns-3 c = λ b. record {
-      failed-is = refl;
-      text-is = rw (c .before .before .before .before .before .before .before .before .before .before .before .before .before .before .before .before .before .before .if1 .left, ne-eqb _ 0 (c .before .before .before .before .before .before .before .before .before .before .before .before .before .before .before .before .before .if2 .left)) (after (c .before .before .before .before .before .before .before .before .before .before .before .before .before .before .before .put-refused .ensures) (after (c .before .before .before .before .before .before .before .before .before .before .put-text .ensures) (after (c .before .before .before .before .before .before .put-decimal .ensures) (c .before .before .put-byte .ensures))));
-    }
+  failed-is = refl;
+  text-is = rw (c .before .before .before .before .before .before .before .before .before .before .before .before .before .before .before .before .before .before .if1 .left, ne-eqb _ 0 (c .before .before .before .before .before .before .before .before .before .before .before .before .before .before .before .before .before .if2 .left)) (after (c .before .before .before .before .before .before .before .before .before .before .before .before .before .before .before .put-refused .ensures) (after (c .before .before .before .before .before .before .before .before .before .before .put-text .ensures) (after (c .before .before .before .before .before .before .put-decimal .ensures) (c .before .before .put-byte .ensures))));
+}
 
 pub close-log-spec : {M : Type 1} → statement M
 close-log-spec =

@@ -12,7 +12,7 @@ use Rattle.log_bench.proofs.player.run.Statement.{statement}
 use Rattle.log_bench.proofs.player.run.Tie as tie
 
 abbrev Inv-loop : tie.InvT-loop
-Inv-loop block₀ out₀ e₀ k₀ block out e k = 
+Inv-loop block₀ out₀ e₀ k₀ block out e k =
     (length block ≡ length block₀)
     × (length out ≡ length out₀)
     × (k ≤ 16777217)
@@ -73,7 +73,7 @@ slice-aggregate-show-block : tie.Need-slice-aggregate-show-block Inv-loop μ-loo
 slice-aggregate-show-block c = sym (length-take-le _ _ (c .before .before .before .before .before .before .before .before .before .pull-block .ensures))
 
 show-block-requires : tie.Need-show-block-requires Inv-loop μ-loop
-show-block-requires c κs = 
+show-block-requires c κs =
     let q = c .before .before .before .before .before .before .before .before .before .before .before .before .before .loop in
     let w = ready _ _ (block-judged _ (q .e .number) _ _ _ (c .before .before .before .play-block .ensures) (c .before .before .if3 .left)) in
     (w .0, w .1, omega (arith, q .inv .1, c .before .before .before .before .before .before .before .before .before .before .before .before .before .before .before .before .pre))
@@ -85,7 +85,7 @@ loop-less : tie.Need-loop-less Inv-loop μ-loop
 loop-less c = search needs
 
 loop-again : tie.Need-loop-again Inv-loop μ-loop
-loop-again c = 
+loop-again c =
     let v = c .before .before .before .before .before .before .before .before .before .before .before .before .before .before .before .before .before .loop .inv in (
       c .before .before .before .before .before .before .before .before .before .before .before .before .before .before .pull-block .kept .0 ∙ v .0,
       c .before .before .before .show-block .kept .1 .1 .0 ∙ v .1,

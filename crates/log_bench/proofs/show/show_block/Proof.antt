@@ -16,7 +16,7 @@ use Rattle.log_bench.proofs.show.show_block.Statement.{statement}
 use Rattle.log_bench.proofs.show.show_block.Tie as tie
 
 abbrev Inv-loop : tie.InvT-loop
-Inv-loop block out₀ e₀ at₀ out e at = 
+Inv-loop block out₀ e₀ at₀ out e at =
     (at ≤ 510)
     × (length out ≡ length out₀)
     × ((n : ℕ) (s : Setup) → Shows (from block at) (e .number) (e .setup) n s → Shows (from block 6) (e₀ .number) (e₀ .setup) n s)
@@ -37,7 +37,7 @@ turn-page-requires : tie.Need-turn-page-requires Inv-loop μ-loop
 turn-page-requires c κs = search needs
 
 sub-add-record : tie.Need-sub-add-record Inv-loop μ-loop
-sub-add-record c = 
+sub-add-record c =
     let q = c .before .before .before .before .before .before .before .loop in
     let st = c .before .before .before .before .before .before .before .before .before .before in
     let bl = st .args .block .now in
@@ -46,7 +46,7 @@ sub-add-record c =
     omega (arith, data-place bl (q .at) (g .0 .0) (g .0 .1 .0) (g .0 .1 .1 .0) (g .0 .1 .1 .1 .0) (g .0 .1 .1 .1 .1 .0) e)
 
 part-add-record-start : tie.Need-part-add-record-start Inv-loop μ-loop
-part-add-record-start c = 
+part-add-record-start c =
     let q = c .before .before .before .before .before .before .before .loop in
     let st = c .before .before .before .before .before .before .before .before .before .before in
     let bl = st .args .block .now in
@@ -55,7 +55,7 @@ part-add-record-start c =
     omega (arith, data-place bl (q .at) (g .0 .0) (g .0 .1 .0) (g .0 .1 .1 .0) (g .0 .1 .1 .1 .0) (g .0 .1 .1 .1 .1 .0) e)
 
 part-add-record-end : tie.Need-part-add-record-end Inv-loop μ-loop
-part-add-record-end c = 
+part-add-record-end c =
     let q = c .before .before .before .before .before .before .before .loop in
     let st = c .before .before .before .before .before .before .before .before .before .before in
     let bl = st .args .block .now in
@@ -64,7 +64,7 @@ part-add-record-end c =
     omega (arith, walk-on bl (q .at) (st .pre .0) (st .pre .1) (g .0 .0) (g .0 .1 .0) (g .0 .1 .1 .0) (g .0 .1 .1 .1 .0) (g .0 .1 .1 .1 .1 .0) e, st .pre .0)
 
 add-record-requires : tie.Need-add-record-requires Inv-loop μ-loop
-add-record-requires c κs = 
+add-record-requires c κs =
     let q = c .before .before .before .before .before .before .before .before .before .loop in
     let st = c .before .before .before .before .before .before .before .before .before .before .before .before in
     let bl = st .args .block .now in
@@ -73,7 +73,7 @@ add-record-requires c κs =
     (omega (arith, c .before .before .turn-page .ensures .room, q .inv .1, st .pre .2), data-few bl (q .at) (st .pre .0) (st .pre .1) (q .e .number) (q .e .setup) (g .0 .0) (g .0 .1 .0) (g .0 .1 .1 .0) (g .0 .1 .1 .1 .0) (g .0 .1 .1 .1 .1 .0) e)
 
 loop-less : tie.Need-loop-less Inv-loop μ-loop
-loop-less c = 
+loop-less c =
     let q = c .before .before .before .before .before .before .before .before .before .before .before .before .loop in
     let st = c .before .before .before .before .before .before .before .before .before .before .before .before .before .before .before in
     let bl = st .args .block .now in
@@ -83,7 +83,7 @@ loop-less c =
 
 loop-again : tie.Need-loop-again Inv-loop μ-loop
 unfolding recordReply
-loop-again c = 
+loop-again c =
     let q = c .before .before .before .before .before .before .before .before .before .before .before .before .loop in
     let st = c .before .before .before .before .before .before .before .before .before .before .before .before .before .before .before in
     let bl = st .args .block .now in
@@ -104,7 +104,7 @@ same-length : tie.Need-same-length Inv-loop μ-loop
 same-length c = c .before .before .before .before .loop .inv .1
 
 returns : tie.Need-returns Inv-loop μ-loop
-returns c = 
+returns c =
     let q = c .before .before .before .before .loop in
     let st = c .before .before .before .before .before .before .before in
     q .inv .2 _ _ (shows-end (st .args .block .now) (q .at) (st .pre .0) (st .pre .1) _ _ (sym (c .before .before .record-at .ensures) ∙ c .enum-told .given .1))
@@ -116,7 +116,7 @@ same-length-2 : tie.Need-same-length-2 Inv-loop μ-loop
 same-length-2 c = c .before .before .before .before .loop .inv .1
 
 returns-2 : tie.Need-returns-2 Inv-loop μ-loop
-returns-2 c = 
+returns-2 c =
     let q = c .before .before .before .before .loop in
     let st = c .before .before .before .before .before .before .before in
     q .inv .2 _ _ (shows-unreadable (st .args .block .now) (q .at) (st .pre .0) (st .pre .1) _ _ _ _ (sym (c .before .before .record-at .ensures) ∙ c .enum-told2 .given .1))

@@ -53,7 +53,7 @@ loop-less : tie.Need-loop-less Inv-loop μ-loop
 loop-less c = search needs
 
 loop-again : tie.Need-loop-again Inv-loop μ-loop
-loop-again c = 
+loop-again c =
     let v = c .before .before .before .before .before .before .before .before .before .before .before .before .before .before .before .before .before .before .before .before .before .before .loop .inv in
     let l = c .before .before .before .before .before .before .before .before .before .before .before .before .before .before .before .before .before .pull-line .kept in
     let a = c .before .before .before .before .add-line .kept in
