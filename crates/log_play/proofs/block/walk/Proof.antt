@@ -15,7 +15,7 @@ use Rattle.log_play.proofs.block.walk.Statement.{statement}
 use Rattle.log_play.proofs.block.walk.Tie as tie
 
 abbrev Inv-loop : tie.InvT-loop
-Inv-loop b block setup₀ at₀ setup at = 
+Inv-loop b block setup₀ at₀ setup at =
     (at ≤ 510)
     × (playedIn b (withRecords (recordsOf formOne (from block at)) (play stepOf setup)) ≡ playedIn b (withRecords (recordsOf formOne (from block 6)) (play stepOf b)))
 
@@ -32,7 +32,7 @@ enum-known-f : tie.Need-enum-known-f Inv-loop μ-loop
 enum-known-f c = search needs
 
 sub-play-record : tie.Need-sub-play-record Inv-loop μ-loop
-sub-play-record c = 
+sub-play-record c =
     let q = c .before .before .before .before .before .loop in
     let st = c .before .before .before .before .before .before .before in
     let bl = st .args .block .now in
@@ -41,7 +41,7 @@ sub-play-record c =
     omega (arith, data-place bl (q .at) (g .0 .0) (g .0 .1 .0) (g .0 .1 .1 .0) (g .0 .1 .1 .1 .0) (g .0 .1 .1 .1 .1 .0) e)
 
 part-play-record-start : tie.Need-part-play-record-start Inv-loop μ-loop
-part-play-record-start c = 
+part-play-record-start c =
     let q = c .before .before .before .before .before .loop in
     let st = c .before .before .before .before .before .before .before in
     let bl = st .args .block .now in
@@ -50,7 +50,7 @@ part-play-record-start c =
     omega (arith, data-place bl (q .at) (g .0 .0) (g .0 .1 .0) (g .0 .1 .1 .0) (g .0 .1 .1 .1 .0) (g .0 .1 .1 .1 .1 .0) e)
 
 part-play-record-end : tie.Need-part-play-record-end Inv-loop μ-loop
-part-play-record-end c = 
+part-play-record-end c =
     let q = c .before .before .before .before .before .loop in
     let st = c .before .before .before .before .before .before .before in
     let bl = st .args .block .now in
@@ -65,7 +65,7 @@ unplayed-requires : tie.Need-unplayed-requires Inv-loop μ-loop
 unplayed-requires c κs = search needs
 
 returns : tie.Need-returns Inv-loop μ-loop
-returns c = 
+returns c =
     let q = c .before .before .before .before .before .before .before .before .before .before .loop in
     let st = c .before .before .before .before .before .before .before .before .before .before .before .before in
     let bl = st .args .block .now in
@@ -74,7 +74,7 @@ returns c =
     c .unplayed .ensures ∙ turn-stays bl (q .at) (st .pre .0) (st .pre .1) (st .args .b) (q .setup) (g .0 .0) (g .0 .1 .0) (g .0 .1 .1 .0) (g .0 .1 .1 .1 .0) (g .0 .1 .1 .1 .1 .0) e _ (c .before .before .before .play-record .ensures) (not-true _ (c .before .if1 .taken)) ∙ q .inv .1
 
 loop-less : tie.Need-loop-less Inv-loop μ-loop
-loop-less c = 
+loop-less c =
     let q = c .before .before .before .before .before .before .before .before .before .before .loop in
     let st = c .before .before .before .before .before .before .before .before .before .before .before .before in
     let bl = st .args .block .now in
@@ -83,7 +83,7 @@ loop-less c =
     omega (arith, walk-on bl (q .at) (st .pre .0) (st .pre .1) (g .0 .0) (g .0 .1 .0) (g .0 .1 .1 .0) (g .0 .1 .1 .1 .0) (g .0 .1 .1 .1 .1 .0) e)
 
 loop-again : tie.Need-loop-again Inv-loop μ-loop
-loop-again c = 
+loop-again c =
     let q = c .before .before .before .before .before .before .before .before .before .before .loop in
     let st = c .before .before .before .before .before .before .before .before .before .before .before .before in
     let bl = st .args .block .now in
@@ -95,7 +95,7 @@ enum-told : tie.Need-enum-told Inv-loop μ-loop
 enum-told c = search needs
 
 returns-2 : tie.Need-returns-2 Inv-loop μ-loop
-returns-2 c = 
+returns-2 c =
     let q = c .before .before .before .before .loop in
     let st = c .before .before .before .before .before .before in
     sym (turn-end (st .args .block .now) (q .at) (st .pre .0) (st .pre .1) (st .args .b) (q .setup) (sym (c .before .before .record-at .ensures) ∙ c .enum-told .given .1)) ∙ q .inv .1
@@ -107,7 +107,7 @@ unplayed-requires-2 : tie.Need-unplayed-requires-2 Inv-loop μ-loop
 unplayed-requires-2 c κs = search needs
 
 returns-3 : tie.Need-returns-3 Inv-loop μ-loop
-returns-3 c = 
+returns-3 c =
     let q = c .before .before .before .before .before .loop in
     let st = c .before .before .before .before .before .before .before in
     c .unplayed2 .ensures ∙ sym (turn-unreadable (st .args .block .now) (q .at) (st .pre .0) (st .pre .1) (st .args .b) (q .setup) (sym (c .before .before .before .record-at .ensures) ∙ c .before .enum-told2 .given .1)) ∙ q .inv .1

@@ -31,7 +31,7 @@ stay-requires c κs = search needs
 
 returns : tie.Need-returns
 unfolding parsedIn
-returns c = 
+returns c =
     let m = c .before .before .before in
     let h = m .before .hold-record in
     let s = m .before .before .shape-of in
@@ -54,7 +54,7 @@ accept-requires c κs = search needs
 
 returns-2 : tie.Need-returns-2
 unfolding parsedIn
-returns-2 c = 
+returns-2 c =
     let t = c .before .before .before .before .before .before in
     let m = t .before .before in
     let h = m .before .hold-record in
