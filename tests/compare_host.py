@@ -28,7 +28,7 @@ from percoder import PRESENCE
 
 REFUSALS = {'write_ground': (5, 6, 10, 15), 'write_air': (5, 6, 10, 12), 'open': (3, 6), 'request': (29, 1, 5, 10, 15, 6), 'elapse': (29, 4, 6),
             **{word: (29, 1, 6) if word == 'user_abort' else (29, 2, 6) for word in hostmodel.CALLS if word not in ('request', 'elapse')},
-            'block_open': (5, 6), 'block_append': (20, 18, 5, 6), 'block_play': (29, 20, 18, 19)}
+            'block_open': (5, 6), 'block_append': (20, 5, 6), 'block_finish': (20,), 'block_play': (29, 20, 18, 19)}
 ONES = b' 1' * hostmodel.MOST_NUMBERS
 UNREADABLE = (b'', b'write', b'write_ground', b'write_ground  ', b'Open    1', b'open   1', b'open    1 ', b'open    01', b'open    4294967296',
               b'open 0   1', b'open AA   1', b'open a a a 1', b'open   ' + ONES + b' 1', b'elapse ' + b'00' * (hostmodel.MOST_OCTETS + 1) + b'  ', b'elapse    1\r',
@@ -269,9 +269,8 @@ def logged(**fields):
 
 def block_changes():
     order, play = RULES.append_order, RULES.play_order
-    yield '6 first', ruled(append_order=('no_room', *order[:3]))
-    yield '5 before 18', ruled(append_order=(order[0], order[2], order[1], order[3]))
-    yield '6 before 5', ruled(append_order=(*order[:2], order[3], order[2]))
+    yield '5 before 20', ruled(append_order=(order[1], order[0], order[2]))
+    yield '6 before 5', ruled(append_order=(order[0], order[2], order[1]))
     for judge in order:
         yield f'append without {judge}', ruled(append_order=tuple(other for other in order if other != judge))
     yield '20 of the octets before 29', ruled(play_order=(play[1], play[0], play[2]))
@@ -284,9 +283,11 @@ def block_changes():
     for size in (35, 37, 40):
         yield f'settings of {size}', ruled(settings_octets=size)
     for last in (RULES.last_block - 1, RULES.last_block + 1):
-        yield f'blocks up to {last}', ruled(last_block=last)
+        yield f'blocks up to {last} are opened', ruled(last_block=last)
         yield f'blocks up to {last} are played', logged(last=last)
-    yield 'what stands behind stays', ruled(behind=lambda octets: octets)
+    yield 'an append writes zeros', ruled(behind=lambda octets: bytes(len(octets)))
+    yield 'what stands behind stays', ruled(finished=lambda octets: octets)
+    yield 'checks without the 1', logged(check=lambda octets: (logmodel.check(octets) - 1) % 65521)
     yield 'zeros of any length are no settings yet', ruled(none=lambda link: not any(link))
     yield 'no record is no settings yet', ruled(none=lambda link: False)
     for ground in RULES.log.grounds:

@@ -520,19 +520,14 @@ def moved(line, answer):
 
 BLOCK_SIZES = (0, 1, 510, 511, 513, 520)
 BLOCK_NUMBERS = (0, 1, 255, 256, 65536, logmodel.LAST - 1, logmodel.LAST, logmodel.LAST + 1, 1 << 25, TOP - 1)
-KINDS_GIVEN = (*range(13), 255, 256, 262, TOP - 1)          # 262 is a kind in its low octet
+KINDS_GIVEN = (*range(13), 128, 255)
 DATA_SIZES = (0, 1, 2, 35, 36, 37, 127, 128, 129, 130, 131, 255, 256, 300)
 # How many octets of room are left where the record is put, more than it needs.
 ROOMS = (-6, -1, 0, 1, 100)
 
 
-def resealed(block):
-    """A block with its check made right."""
-    return block[:510] + logmodel.check(block).to_bytes(2, 'big')
-
-
 class Blocks:
-    """Lines for block_open, block_append and block_play."""
+    """Lines for block_open, block_append, block_finish and block_play."""
 
     def __init__(self, rng):
         self.rng, self.met, self.lines, self.scripts = rng, collections.Counter(), [], logmaking.Scripts(rng)
@@ -553,8 +548,9 @@ class Blocks:
     # A record more
 
     def block(self, used):
-        """A block whose payload has so many octets of any kind, and zeros behind."""
-        return logmodel.block_of(self.rng.choice((0, 1, 77, logmodel.LAST)), self.rng.randbytes(used))
+        """A block whose payload has so many octets of any kind; behind it zeros or octets of any kind, and a check that is right or not."""
+        block = logmodel.block_of(self.rng.choice((0, 1, 77, logmodel.LAST)), self.rng.randbytes(used))
+        return self.rng.choice((block, block[:510] + bytes(2), block[:6 + used] + self.rng.randbytes(506 - used)))
 
     def fields(self, kind):
         """Seconds and data that the call of a kind has."""
@@ -569,17 +565,13 @@ class Blocks:
         self.add(name, 'block_append', spoil(block) if spoil else block, data, [kind, seconds])
 
     def spoils(self):
-        """Blocks that are refused, and some that are not what open and append make."""
-        flip = lambda block, place, octet: block[:place] + bytes([block[place] ^ octet]) + block[place + 1:]
-        yield 'check high', lambda block: flip(block, 510, self.rng.randint(1, 255))
-        yield 'check low', lambda block: flip(block, 511, self.rng.randint(1, 255))
-        yield 'an octet changed', lambda block: flip(block, self.rng.randrange(510), self.rng.randint(1, 255))
+        """Blocks that are no open ones, and such at the edges."""
         for size in BLOCK_SIZES:
             yield f'{size} octets', lambda block, size=size: (block + bytes(8))[:size]
         for length in (505, 510, 1000, 65535):
-            yield f'length {length}', lambda block, length=length: resealed(block[:4] + length.to_bytes(2, 'big') + block[6:])
-        yield 'not zero behind', lambda block: resealed(block[:300] + self.rng.randbytes(210) + block[510:])
-        yield 'any number', lambda block: resealed(self.rng.randbytes(4) + block[4:])
+            yield f'length {length}', lambda block, length=length: block[:4] + length.to_bytes(2, 'big') + block[6:]
+        for number in (logmodel.LAST, logmodel.LAST + 1, TOP - 1):
+            yield f'number {number}', lambda block, number=number: number.to_bytes(4, 'big') + block[4:]
 
     def appending(self):
         for kind in KINDS_GIVEN:
@@ -594,7 +586,11 @@ class Blocks:
             self.append(f'room {room}, out of order', kind, *(1, b'') if kind != 3 else (0, b'x'), room)
         for name, spoil in self.spoils():
             for kind, seconds, data in ((3, 5, b''), (6, 0, b'abc'), (6, 1, b'abc'), (11, 0, b'')):
-                self.append(name, kind, seconds, data, self.rng.choice((None, None, -1)), spoil)
+                self.append(name, kind, seconds, data, self.rng.choice((None, None, -1)) if kind == 6 else None, spoil)
+            self.add(f'finish: {name}', 'block_finish', spoil(self.block(self.rng.choice((0, 6, 300)))), b'', [])
+        for used in (0, 1, 6, 42, 300, 503, 504):
+            self.add('finish', 'block_finish', self.block(used), b'', [])
+            self.add('finish again', 'block_finish', logmodel.block_of(3, self.rng.randbytes(used)), b'', [])
 
     # Play
 
@@ -657,7 +653,8 @@ def blocks(rng, count):
 
 # ---- what has to be met
 
-BLOCKS_DUE = ([f'{word} {number}' for word, numbers in (('block_open', (0, 5, 6)), ('block_append', (0, 20, 18, 5, 6)), ('block_play', (0, 29, 20, 18, 19)))
+BLOCKS_DUE = ([f'{word} {number}' for word, numbers in (('block_open', (0, 5, 6)), ('block_append', (0, 20, 5, 6)), ('block_finish', (0, 20)),
+                                                            ('block_play', (0, 29, 20, 18, 19)))
                for number in numbers]
               + [f'room {room}: {"refused" if room < 0 else "accepted"}' for room in ROOMS] + [f'room {room}, out of order: refused' for room in ROOMS]
               + [f'kind {kind}: {"accepted" if kind <= 10 else "refused"}' for kind in KINDS_GIVEN]
@@ -666,7 +663,9 @@ BLOCKS_DUE = ([f'{word} {number}' for word, numbers in (('block_open', (0, 5, 6)
               + [f'play {number}: {"accepted" if number <= logmodel.LAST else "refused"}' for number in BLOCK_NUMBERS]
               + [f'play {number} for another: refused' for number in BLOCK_NUMBERS]
               + [f'play settings of {size}: {"accepted" if size == 36 else "refused"}' for size in (0, 35, 36, 37, 40)]
-              + ['not zero behind: accepted', 'any number: accepted', 'play: accepted', 'play on a good one: accepted', 'play on another: refused',
+              + [f'{what}number {number}: {"accepted" if number == logmodel.LAST else "refused"}' for what in ('', 'finish: ')
+                 for number in (logmodel.LAST, logmodel.LAST + 1, TOP - 1)]
+              + ['finish: accepted', 'finish again: accepted', 'play: accepted', 'play on a good one: accepted', 'play on another: refused',
                  'play on nothing: refused', 'play on other zeros: refused', 'play of no record: accepted'])
 
 RECORDS_DUE = ([f'{timer} {how}: setting {setting}' for timer in TIMERS for how in ('runs', 'rests') for setting in SETTINGS]

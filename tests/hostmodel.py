@@ -6,8 +6,9 @@ logmodel.py.
     answer(line) -> the text that is due to a line of the program hostcall:
 
 `WORD LINK OCTETS OUT N N ..` calls adsc_WORD on buffers of these octets (each field may be empty, its space stays) and numbers, and is
-answered with `NUMBER LENGTH LINK OUT`: the function's result, the length of a write (999 before the call), both lent buffers after it. For block_open and
-block_append LINK is the block, and the numbers are its number, or kind and seconds; for block_play OCTETS is the block, and the number is the one it is to have.
+answered with `NUMBER LENGTH LINK OUT`: the function's result, the length of a write (999 before the call), both lent buffers after it. For block_open,
+block_append and block_finish LINK is the block, and the numbers are its number, kind and seconds, and none; for block_play OCTETS is the block, and the number
+is the one it is to have.
 """
 
 import dataclasses
@@ -51,7 +52,7 @@ ACTIONS = {'start-req': 1, 'data-req': 2, 'end-req': 3, 'abort-req': 4, 'ind': 5
 # The functions, and what the calls on a record are called in a script.
 CALLS = {'request': 'req', 'user_abort': 'user-abort', 'elapse': 'elapse', 'start_confirm': 'start-cnf', 'start_rejected': 'start-rej',
          'data': 'data', 'end_confirm': 'end-cnf', 'peer_abort': 'peer-abort', 'air_abort': 'air-abort', 'down': 'down'}
-BLOCKS = ('block_open', 'block_append', 'block_play')
+BLOCKS = ('block_open', 'block_append', 'block_finish', 'block_play')
 WORDS = ('write_ground', 'write_air', 'open', *CALLS, *BLOCKS)
 MOST_OCTETS = 520
 HEX = f'((?:[0-9a-f]{{2}}){{0,{MOST_OCTETS}}})'
@@ -61,7 +62,7 @@ LINE = re.compile(f'({"|".join(WORDS)}) {HEX} {HEX} {HEX}((?: {linkmodel.NUMBER}
 # "Order. Calls: .. 29, 4, 1 or 2, then fields", and "6 last" (adsc.h). Each is a function of Calling.
 ORDER = ('bad_record', 'long_elapse', 'not_listed', 'bad_fields', 'no_room')
 # Of adsc_block_append and adsc_block_play, as adsc.h has them: functions of Appending and Playing.
-APPEND_ORDER = ('cut_short', 'check_wrong', 'bad_fields', 'no_room')
+APPEND_ORDER = ('not_open', 'bad_fields', 'no_room')
 PLAY_ORDER = ('bad_record', 'cut_short', 'judged')
 
 
@@ -91,7 +92,8 @@ class Rules:
     kept_data: int = logmodel.KEPT
     last_block: int = logmodel.LAST
     settings_octets: int = logmodel.SETTINGS
-    behind: callable = lambda octets: bytes(len(octets))        # what stands behind the payload after an append
+    behind: callable = lambda octets: octets                    # what stands behind the record after an append,
+    finished: callable = lambda octets: bytes(len(octets))      # and behind the payload after a finish
     none: callable = lambda link: link == bytes(LINK_OCTETS)    # "A link record of 85 zeros is one that has no settings yet"
     log: logmodel.Rules = logmodel.RULES
     room: int = ANSWER_OCTETS
@@ -364,7 +366,14 @@ def block_opened(block, out, numbers, rules):
         return After(5, BEFORE, block, out)
     if len(block) != rules.block:
         return After(6, BEFORE, block, out)
-    return After(0, BEFORE, logmodel.block_of(number, b''), out)
+    return After(0, BEFORE, number.to_bytes(4, 'big') + bytes(508), out)
+
+
+def not_open(block, rules):
+    """"20 (a block that is not of 512 octets, or whose number or payload length is none that adsc_block_open and this function make)" """
+    if len(block) != rules.block:
+        return 20
+    return 20 if int.from_bytes(block[:4], 'big') > rules.last_block or int.from_bytes(block[4:6], 'big') > rules.payload else 0
 
 
 class Appending:
@@ -376,11 +385,8 @@ class Appending:
         self.used = int.from_bytes(block[4:6], 'big')
         self.size = logmodel.RECORD_HEAD + len(data[:rules.kept_data])
 
-    def cut_short(self):
-        return 20 if len(self.block) != self.rules.block else 0
-
-    def check_wrong(self):
-        return 18 if int.from_bytes(self.block[510:512], 'big') != self.rules.log.check(self.block) else 0
+    def not_open(self):
+        return not_open(self.block, self.rules)
 
     def bad_fields(self):
         """"5 (a kind over ADSC_CALL_DOWN; seconds not 0, where the call is no elapse; data, where the call has none; settings that are not
@@ -404,7 +410,16 @@ class Appending:
         record = bytes([self.kind]) + self.seconds.to_bytes(4, 'big') + bytes([len(data)]) + data
         payload = self.block[6:6 + self.used] + record
         octets = self.block[:4] + len(payload).to_bytes(2, 'big') + payload + self.rules.behind(self.block[6 + len(payload):510])
-        return After(0, BEFORE, octets + self.rules.log.check(octets).to_bytes(2, 'big'), self.out)
+        return After(0, BEFORE, octets + self.block[510:], self.out)
+
+
+def block_finished(block, out, rules):
+    """"Zeros behind the payload, and the check." """
+    if not_open(block, rules):
+        return After(20, BEFORE, rules.left_as('link', block), rules.left_as('out', out))
+    end = 6 + int.from_bytes(block[4:6], 'big')
+    octets = block[:end] + rules.finished(block[end:510])
+    return After(0, BEFORE, octets + rules.log.check(octets).to_bytes(2, 'big'), out)
 
 
 class Playing:
@@ -458,6 +473,8 @@ def call(word, link, octets, out, numbers, rules=RULES):
         return block_opened(link, out, numbers, rules)
     if word == 'block_append':
         return Appending(link, octets, out, numbers, rules).made()
+    if word == 'block_finish':
+        return block_finished(link, out, rules)
     if word == 'block_play':
         return Playing(link, octets, out, numbers, rules).made()
     return Calling(word, link, octets, out, numbers, rules).made()

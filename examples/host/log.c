@@ -9,15 +9,17 @@
 static uint8_t link[ADSC_LINK_OCTETS], answer[ADSC_ANSWER_OCTETS], block[ADSC_BLOCK_OCTETS];
 static FILE *disk;
 
-/* ---- keeping: a block stands at its number, and so many of its octets reach the disk */
+/* ---- keeping: a finished block stands at its number, and so many of its octets reach the disk */
 
 static bool keep(size_t octets)
 {
-    return fseek(disk, (long)adsc_block_number(block) * ADSC_BLOCK_OCTETS, SEEK_SET) == 0 && fwrite(block, 1, octets, disk) == octets && fflush(disk) == 0;
+    return adsc_block_finish(block, sizeof block) == ADSC_OK
+        && fseek(disk, (long)adsc_block_number(block) * ADSC_BLOCK_OCTETS, SEEK_SET) == 0
+        && fwrite(block, 1, octets, disk) == octets && fflush(disk) == 0;
 }
 
 /* Records a call that was accepted. Where the block has no room it is kept, and the next one takes the record. */
-static uint8_t record(uint32_t kind, uint32_t seconds, const uint8_t *data, size_t n)
+static uint8_t record(uint8_t kind, uint32_t seconds, const uint8_t *data, size_t n)
 {
     uint8_t refusal = adsc_block_append(block, sizeof block, kind, seconds, data, n);
     if (refusal == ADSC_NO_ROOM && keep(sizeof block)) {
