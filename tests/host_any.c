@@ -67,7 +67,8 @@ struct lent {
 static struct lent settings = {.name = "settings", .width = 4}, link_ = {.name = "link", .width = 1}, answer = {.name = "answer", .width = 1},
                    octets = {.name = "octets", .width = 1}, numbers = {.name = "numbers", .width = 4}, list = {.name = "list", .width = 1},
                    out = {.name = "out", .width = 1}, written = {.name = "written", .width = sizeof(size_t)}, block = {.name = "block", .width = 1};
-static uint32_t seconds, kind, number;
+static uint32_t seconds, number;
+static uint8_t kind;
 static size_t page_octets;
 
 static uint32_t *words(struct lent *b)
@@ -268,6 +269,8 @@ static void fill(uint8_t *b, bool first)
         else
             adsc_block_append(b, ADSC_BLOCK_OCTETS, ADSC_CALL_ELAPSE, one_in(20) ? chance(3) : 0, some, 0);
     }
+    if (!one_in(8))
+        adsc_block_finish(b, ADSC_BLOCK_OCTETS);
 }
 
 static void lend_block(bool first)
@@ -280,7 +283,7 @@ static void lend_block(bool first)
     if (how >= 2)                           /* else octets of any kind */
         memcpy(block.at, whole, sizeof whole);
     if (how == 2)
-        block.at[chance(sizeof whole)] ^= (uint8_t)(1 + chance(255));
+        block.at[one_in(2) ? chance(6) : chance(sizeof whole)] ^= (uint8_t)(1 + chance(255));
     if (how == 3)
         number += 1 + chance(3);
 }
@@ -289,7 +292,7 @@ static void lend_block(bool first)
 
 enum which {
     OPEN, REQUEST, USER_ABORT, ELAPSE, START_CONFIRM, START_REJECTED, DATA, END_CONFIRM, PEER_ABORT, AIR_ABORT, DOWN,
-    BLOCK_OPEN, BLOCK_APPEND, BLOCK_PLAY, READ_AIR, READ_GROUND, WRITE_AIR, WRITE_GROUND, FUNCTIONS
+    BLOCK_OPEN, BLOCK_APPEND, BLOCK_FINISH, BLOCK_PLAY, READ_AIR, READ_GROUND, WRITE_AIR, WRITE_GROUND, FUNCTIONS
 };
 
 struct used { struct lent *b; size_t changes; };
@@ -311,7 +314,8 @@ static const struct function {
     {"adsc_air_abort", {{&link_, ADSC_LINK_OCTETS}, {&octets, 0}, {&answer, ADSC_ANSWER_OCTETS}}, {29, 2, 6}},
     {"adsc_down", {{&link_, ADSC_LINK_OCTETS}, {&answer, ADSC_ANSWER_OCTETS}}, {29, 2, 6}},
     {"adsc_block_open", {{&block, ADSC_BLOCK_OCTETS}}, {5, 6}},
-    {"adsc_block_append", {{&block, ADSC_BLOCK_OCTETS}, {&octets, 0}}, {20, 18, 5, 6}},
+    {"adsc_block_append", {{&block, ADSC_BLOCK_OCTETS}, {&octets, 0}}, {20, 5, 6}},
+    {"adsc_block_finish", {{&block, ADSC_BLOCK_OCTETS}}, {20}},
     {"adsc_block_play", {{&link_, ADSC_LINK_OCTETS}, {&block, 0}}, {29, 20, 18, 19}},
     {"adsc_read_air", {{&octets, 0}, {&numbers, 4 * ADSC_AIR_NUMBERS}, {&list, ADSC_LIST_OCTETS}}, {7, 8, 9, 10, 12, 13, 14, 16, 6}},
     {"adsc_read_ground", {{&octets, 0}, {&numbers, 4 * ADSC_GROUND_NUMBERS}}, {7, 8, 9, 10, 13, 14, 15, 16, 6}},
@@ -363,7 +367,7 @@ static void lend_all(enum which f)
 {
     random_record = false;
     seconds = one_in(8) ? chance(UINT32_MAX) : chance(100);
-    kind = one_in(8) ? chance(300) : one_in(2) ? ADSC_CALL_DATA : chance(ADSC_CALL_DOWN + 1);
+    kind = one_in(8) ? (uint8_t)chance(256) : one_in(2) ? ADSC_CALL_DATA : (uint8_t)chance(ADSC_CALL_DOWN + 1);
     if (f == BLOCK_APPEND && kind != ADSC_CALL_ELAPSE && !one_in(8))
         seconds = 0;
     EACH_USED(u, f)
@@ -389,6 +393,7 @@ static uint8_t perform(enum which f)
     case DOWN: return adsc_down(l, k, a, m);
     case BLOCK_OPEN: return adsc_block_open(block.at, block.length, number);
     case BLOCK_APPEND: return adsc_block_append(block.at, block.length, kind, seconds, o, n);
+    case BLOCK_FINISH: return adsc_block_finish(block.at, block.length);
     case BLOCK_PLAY: return adsc_block_play(l, k, block.at, block.length, number);
     case READ_AIR: return adsc_read_air(o, n, words(&numbers), numbers.length, list.at, list.length);
     case READ_GROUND: return adsc_read_ground(o, n, words(&numbers), numbers.length);
@@ -542,25 +547,34 @@ static void check_record(enum which f)
         memcpy(live, was, sizeof live);
 }
 
-/* An opened block is empty; one that was appended to has its number and its records as before, and the new one behind them. It is whole: the next append
- * takes it, or has no room. */
-static void check_block(enum which f)
+/* The new record of a block that was appended to stands behind those that it had, and every other octet stays. */
+static void check_appended(enum which f)
 {
-    uint8_t copy[ADSC_BLOCK_OCTETS];
     const uint8_t *was = block_before(), *now = block.at;
-    size_t at = f == BLOCK_OPEN ? adsc_block_first() : adsc_block_end(was);
-    if (f == BLOCK_OPEN) {
-        must(adsc_block_number(now) == number && adsc_block_end(now) == at, f, "another block");
-    } else {
-        must(adsc_block_number(now) == adsc_block_number(was) && memcmp(now + adsc_block_first(), was + adsc_block_first(), at - adsc_block_first()) == 0, f, "other records");
-        must(adsc_record_kind(now, at) == kind && adsc_record_seconds(now, at) == seconds && adsc_record_length(now, at) == data_kept()
-                 && memcmp(adsc_record_data(now, at), octets.at, data_kept()) == 0 && adsc_record_next(now, at) == adsc_block_end(now), f, "another record");
-    }
-    for (size_t i = adsc_block_end(now); i < ADSC_BLOCK_OCTETS - 2; i++)
+    size_t at = adsc_block_end(was), next = adsc_record_next(now, at);
+    must(adsc_record_kind(now, at) == kind && adsc_record_seconds(now, at) == seconds && adsc_record_length(now, at) == data_kept()
+             && memcmp(adsc_record_data(now, at), octets.at, data_kept()) == 0 && next == adsc_block_end(now), f, "another record");
+    must(memcmp(now, was, 4) == 0 && memcmp(now + adsc_block_first(), was + adsc_block_first(), at - adsc_block_first()) == 0
+             && memcmp(now + next, was + next, ADSC_BLOCK_OCTETS - next) == 0, f, "other octets changed");
+}
+
+/* A finished block has the number and the records that it had, and zeros behind; play takes its check. */
+static void check_finished(enum which f)
+{
+    uint8_t fresh[ADSC_LINK_OCTETS] = {0};
+    const uint8_t *was = block_before(), *now = block.at;
+    size_t end = adsc_block_end(was);
+    must(memcmp(now, was, end) == 0, f, "other records");
+    for (size_t i = end; i < ADSC_BLOCK_OCTETS - 2; i++)
         must(now[i] == 0, f, "octet %d behind the payload", (int)i);
-    memcpy(copy, now, sizeof copy);
-    uint8_t next = adsc_block_append(copy, sizeof copy, ADSC_CALL_DOWN, 0, copy, 0);
-    must(next == ADSC_OK || next == ADSC_NO_ROOM, f, "the next append refuses the block with %d", next);
+    must(adsc_block_play(fresh, sizeof fresh, now, ADSC_BLOCK_OCTETS, adsc_block_number(now)) != ADSC_CHECK_WRONG, f, "the check is wrong");
+}
+
+static void check_opened(enum which f)
+{
+    must(adsc_block_number(block.at) == number, f, "another number");
+    for (size_t i = 4; i < ADSC_BLOCK_OCTETS; i++)
+        must(block.at[i] == 0, f, "octet %d is not zero", (int)i);
 }
 
 /* A periodic contract that sends 5 minutes, the default: the interval is the 8 bits behind 8 presence bits. */
@@ -659,8 +673,12 @@ static void one_call(void)
         check_seconds(f);
         check_record(f);
     }
-    if (f == BLOCK_OPEN || f == BLOCK_APPEND)
-        check_block(f);
+    if (f == BLOCK_OPEN)
+        check_opened(f);
+    if (f == BLOCK_APPEND)
+        check_appended(f);
+    if (f == BLOCK_FINISH)
+        check_finished(f);
     if (f == READ_AIR || f == READ_GROUND)
         check_read(f);
     if (f >= WRITE_AIR)
