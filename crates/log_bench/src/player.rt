@@ -52,7 +52,7 @@ fn pull_block(block: &mut [u8]) -> Pulled
 }
 
 // How a log ended: its trace up to there, the refusal or 0 and the number of the block that it is of, and whether a read failed before the end.
-pub struct Run {
+pub struct LogEnd {
     pub trace: Trace,
     pub refusal: u8,
     pub block: u32,
@@ -60,19 +60,19 @@ pub struct Run {
 }
 
 // The end of a log: one that has no record is refused.
-fn end_log(t: Trace, block: u32) -> Run
+fn end_log(t: Trace, block: u32) -> LogEnd
     ensures { λ r. ⌜ (r .failed ≡ false) × (outcome (r .trace .number) (r .trace .setup) (r .refusal) (r .block) ≡ ended block (t .number) (t .setup)) ⌝ }
 {
     let setup = t.setup;
     if setup.ready {
-        return Run {
+        return LogEnd {
             trace: t,
             refusal: 0,
             block,
             failed: false,
         };
     }
-    Run {
+    LogEnd {
         trace: t,
         refusal: NOT_READABLE,
         block,
@@ -81,7 +81,7 @@ fn end_log(t: Trace, block: u32) -> Run
 }
 
 // Plays every block of the log. Behind the last number none is in turn, so the loop has turns enough.
-fn run(t: Trace, block: &mut [u8], out: &mut [u8]) -> Run
+fn run(t: Trace, block: &mut [u8], out: &mut [u8]) -> LogEnd
     requires { ⌜ 131072 ≤ length (now out) ⌝ }
     ensures { λ r. ⌜ Ends 0 (t .number) (t .setup) (outcome (r .trace .number) (r .trace .setup) (r .refusal) (r .block)) (r .failed) ⌝ }
 {
@@ -91,7 +91,7 @@ fn run(t: Trace, block: &mut [u8], out: &mut [u8]) -> Run
         let p = pull_block(block);
         let n = p.len;
         if p.failed {
-            return Run {
+            return LogEnd {
                 trace: e,
                 refusal: 0,
                 block: k,
@@ -105,7 +105,7 @@ fn run(t: Trace, block: &mut [u8], out: &mut [u8]) -> Run
         let b = play_block(setup, &block[..n], k);
         let refusal = b.refusal;
         if refusal != 0 {
-            return Run {
+            return LogEnd {
                 trace: e,
                 refusal,
                 block: k,
@@ -121,7 +121,7 @@ fn run(t: Trace, block: &mut [u8], out: &mut [u8]) -> Run
         };
         k += 1;
     }
-    Run {
+    LogEnd {
         trace: e,
         refusal: 0,
         block: k,
