@@ -8,7 +8,7 @@ import functools
 
 import linkmodel
 import logmodel
-from logmodel import BLOCK, GROUNDS, HEAD, KINDS, ROOM, RULES, SETTINGS, WITH_DATA, Reader, block_of, log, packed, play, recorded
+from logmodel import BLOCK, GROUNDS, HEAD, KINDS, ROOM, RULES, WITH_DATA, Reader, block_of, log, packed, play, recorded
 
 
 def recorder(**fields):
