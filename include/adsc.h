@@ -394,8 +394,10 @@ uint8_t adsc_down(uint8_t *link, size_t link_length, uint8_t *answer, size_t ans
  * single octet that is changed later is found. Numbers go most significant octet first.
  *
  * To keep a log: adsc_block_open makes block 0, adsc_block_append records the settings and then each call that was accepted, right after the call. Where a
- * block has no room (6) finish it, keep it, open the next number and append there. adsc_block_finish makes a block whole, so that a host may keep it at any time
- * and again with more in it: in place, as its number stays. To read one: adsc_block_play, block by block from number 0 (examples/host/log.c). */
+ * block has no room (6) finish it, keep it, open the next number and append there. adsc_block_finish makes a block whole, at any time: it may be kept then, and
+ * again with more in it, in place, as its number stays. To read one: adsc_block_play, block by block from number 0. A block that was cut off while it was
+ * written is refused there, 20 where the log ends in it, else 18; the record stands as the blocks before it left it, and the log may go on with that number
+ * (examples/host/log.c). */
 
 /* The kinds of calls that a record has. */
 enum adsc_call {
@@ -416,27 +418,26 @@ enum adsc_call {
  * octets). */
 uint8_t adsc_block_open(uint8_t *block, size_t block_length, uint32_t number);
 
-/* Records a call behind those that the block has. Seconds are those of an elapse, else 0. The block then has the record behind its payload and the length to
- * it; its number stays, and so does its check: adsc_block_finish writes that. A record is the kind, four octets of seconds, an octet of length, the data, of
- * more than ADSC_KEPT_MOST octets the first of them. Refuses, in this order: 20 (a block that is not of 512 octets, or whose number is not below
- * ADSC_BLOCKS_MOST or payload length over ADSC_PAYLOAD_MOST: none that adsc_block_open has made), 5 (a kind over ADSC_CALL_DOWN; seconds not 0, where the call
- * is no elapse; data, where the call has none; settings that are not ADSC_SETTINGS_OCTETS octets), 6 (the payload and the record are over ADSC_PAYLOAD_MOST
- * together: finish the block, keep it, open the next number and append there). */
+/* Records a call behind those that the block has: the kind, four octets of seconds, an octet of length, the data; the payload length moves on, and every other
+ * octet stays, the check too. Seconds are those of an elapse, else 0. Refuses, in this order: 20 (a block that is not of 512 octets, or whose number or payload
+ * length is none that adsc_block_open and this function make: not below ADSC_BLOCKS_MOST, over ADSC_PAYLOAD_MOST), 5 (a kind over ADSC_CALL_DOWN; seconds not 0,
+ * where the call is no elapse; data, where the call has none; settings that are not ADSC_SETTINGS_OCTETS octets), 6 (the payload and the record are over
+ * ADSC_PAYLOAD_MOST together). */
 uint8_t adsc_block_append(uint8_t *block, size_t block_length, uint8_t kind, uint32_t seconds, const uint8_t *data, size_t data_length);
 
-/* Writes zeros behind the payload, and the check: the block may be kept, and may take more records afterwards. Refuses: 20, as adsc_block_append. */
+/* Zeros behind the payload, and the check. Refuses: 20 as adsc_block_append. */
 uint8_t adsc_block_finish(uint8_t *block, size_t block_length);
 
 /* Judges a block, which is to have this number, and plays its records on the link: the record is then as the calls had left it. A link record of 85 zeros is
  * one that has no settings yet, as before block 0. Refuses, in this order: 29 (a record that is neither good nor of zeros), 20 (a block that is not of 512
- * octets), 18, 19 (also where the number is not below ADSC_BLOCKS_MOST), 20: a payload length over ADSC_PAYLOAD_MOST, octets behind the payload that are not zero,
- * and of each record that it does not lie in the payload wholly, a kind over ADSC_CALL_DOWN, data over ADSC_KEPT_MOST, seconds or data that its call does
+ * octets), 18, 19 (also where the number is not below ADSC_BLOCKS_MOST), 20: a payload length over ADSC_PAYLOAD_MOST, octets behind the payload that are not
+ * zero, and of each record that it does not lie in the payload wholly, a kind over ADSC_CALL_DOWN, data over ADSC_KEPT_MOST, seconds or data that its call does
  * not use, settings that are not the first record of the log or are not of ADSC_SETTINGS_OCTETS octets, another first record, a request that does not read,
  * a call that the link refuses. A block is played wholly or not at all. One without records is good and leaves the record. */
 uint8_t adsc_block_play(uint8_t *link, size_t link_length, const uint8_t *block, size_t block_length, uint32_t number);
 
-/* What a block holds, for a host that looks at the calls themselves. The block is one that adsc_block_play has taken, or one that the host writes: the readers check nothing in it. Its
- * number, */
+/* What a block holds, for a host that looks at the calls themselves. The block is one that these functions have made or taken: the readers check nothing
+ * in it. Its number, */
 static inline uint32_t adsc_block_number(const uint8_t *block)
 {
     return adsc_number_at(block);

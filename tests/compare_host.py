@@ -5,7 +5,8 @@
     compare_host.py --list
 
 PROGRAM is hostcall. Writing is from numbers: each at its edges, each two things out of order, every room; calls are on link records, good and
-one step off; blocks of the flight log are opened, appended to and played, damaged ones too. --change compares with a model of which one rule is changed: then the comparison must fail. --self compares each such model with the
+one step off; blocks of the flight log are opened, appended to, finished and played,
+damaged ones too. --change compares with a model of which one rule is changed: then the comparison must fail. --self compares each such model with the
 plain one, without a program, and wants all told apart. --list prints their names. Exit 0: no differences, and everything that is due was met.
 """
 
@@ -269,7 +270,6 @@ def logged(**fields):
 
 def block_changes():
     order, play = RULES.append_order, RULES.play_order
-    yield '6 first', ruled(append_order=('no_room', *order[:2]))
     yield '5 before 20', ruled(append_order=(order[1], order[0], order[2]))
     yield '6 before 5', ruled(append_order=(order[0], order[2], order[1]))
     for judge in order:
@@ -284,10 +284,11 @@ def block_changes():
     for size in (35, 37, 40):
         yield f'settings of {size}', ruled(settings_octets=size)
     for last in (RULES.last_block - 1, RULES.last_block + 1):
-        yield f'blocks up to {last}', ruled(last_block=last)
+        yield f'blocks up to {last} are opened', ruled(last_block=last)
         yield f'blocks up to {last} are played', logged(last=last)
-    yield 'what stands behind stays', ruled(behind=lambda octets: octets)
-    yield 'append writes the check', ruled(checked=lambda octets, check: octets[:510] + check)
+    yield 'an append writes zeros', ruled(behind=lambda octets: bytes(len(octets)))
+    yield 'what stands behind stays', ruled(finished=lambda octets: octets)
+    yield 'checks without the 1', logged(check=lambda octets: (logmodel.check(octets) - 1) % 65521)
     yield 'zeros of any length are no settings yet', ruled(none=lambda link: not any(link))
     yield 'no record is no settings yet', ruled(none=lambda link: False)
     for ground in RULES.log.grounds:

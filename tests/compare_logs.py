@@ -61,14 +61,11 @@ def cut(rng, logs):
 
 
 def damages(rng, logs, count):
-    """In each way as often as in the others."""
-    made = 0
-    while made < count:
+    """In each way as often as in the others; some logs have not what a damage needs."""
+    for _ in range(count // len(DAMAGES)):
         for name in DAMAGES:
-            log = damaged(rng, name, rng.choice(logs))
-            if log is not None:
-                made += 1
-                yield Case(name, 'adsplay', log)
+            tried = (damaged(rng, name, rng.choice(logs)) for _ in range(20))
+            yield from (Case(name, 'adsplay', log) for log in [next(filter(None, tried), None)] if log)
         yield Case('two grounds', 'adsplay', both(rng, rng.choice(logs)))
 
 

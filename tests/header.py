@@ -51,6 +51,12 @@ CONSTANTS = {
         "ADSC_DC_PENDING": "DC_PENDING", "ADSC_DC_ACTIVE": "DC_ACTIVE", "ADSC_EM_ACTIVE": "EM_ACTIVE", "ADSC_EM_MODIFY": "MODIFY"},
 }
 
+# A kind of call, which counts from 0, and the script word that it is, whose places count from 1.
+WORDS = {"bench_line/src/line.rt": {
+    "ADSC_CALL_REQUEST": "REQ", "ADSC_CALL_USER_ABORT": "USER_ABORT", "ADSC_CALL_ELAPSE": "ELAPSE", "ADSC_CALL_START_CONFIRM": "START_CNF",
+    "ADSC_CALL_START_REJECTED": "START_REJ", "ADSC_CALL_DATA": "DATA", "ADSC_CALL_END_CONFIRM": "END_CNF", "ADSC_CALL_PEER_ABORT": "PEER_ABORT",
+    "ADSC_CALL_AIR_ABORT": "AIR_ABORT", "ADSC_CALL_DOWN": "DOWN"}}
+
 # Numbers of refusals that no name has again (02, L5).
 RETIRED = (11,)
 
@@ -130,6 +136,9 @@ def numbers_due():
     for path, names in CONSTANTS.items():
         values = dict(re.findall(r"pub(?:\(crate\))? const (\w+): \w+ = (\d+);", crate(path)))
         due += [(name, int(values[const]), f"{path}, {const}") for name, const in names.items()]
+    for path, names in WORDS.items():
+        values = dict(re.findall(r"const (\w+): usize = (\d+);", crate(path)))
+        due += [(name, int(values[const]) - 1, f"{path}, {const}") for name, const in names.items()]
     for path, (enum, names) in KINDS.items():
         values = {variant: int(n) for n, variant in re.findall(rf"(\d+) => {enum}::(\w+)", crate(path))}
         due += [(name, values[variant], f"{path}, {enum}::{variant}") for name, variant in names.items()]

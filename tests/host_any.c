@@ -269,7 +269,8 @@ static void fill(uint8_t *b, bool first)
         else
             adsc_block_append(b, ADSC_BLOCK_OCTETS, ADSC_CALL_ELAPSE, one_in(20) ? chance(3) : 0, some, 0);
     }
-    adsc_block_finish(b, ADSC_BLOCK_OCTETS);
+    if (!one_in(8))
+        adsc_block_finish(b, ADSC_BLOCK_OCTETS);
 }
 
 static void lend_block(bool first)
@@ -282,7 +283,7 @@ static void lend_block(bool first)
     if (how >= 2)                           /* else octets of any kind */
         memcpy(block.at, whole, sizeof whole);
     if (how == 2)
-        block.at[chance(sizeof whole)] ^= (uint8_t)(1 + chance(255));
+        block.at[one_in(2) ? chance(6) : chance(sizeof whole)] ^= (uint8_t)(1 + chance(255));
     if (how == 3)
         number += 1 + chance(3);
 }
@@ -366,7 +367,7 @@ static void lend_all(enum which f)
 {
     random_record = false;
     seconds = one_in(8) ? chance(UINT32_MAX) : chance(100);
-    kind = (uint8_t)(one_in(8) ? chance(256) : one_in(2) ? ADSC_CALL_DATA : chance(ADSC_CALL_DOWN + 1));
+    kind = one_in(8) ? (uint8_t)chance(256) : one_in(2) ? ADSC_CALL_DATA : (uint8_t)chance(ADSC_CALL_DOWN + 1);
     if (f == BLOCK_APPEND && kind != ADSC_CALL_ELAPSE && !one_in(8))
         seconds = 0;
     EACH_USED(u, f)
@@ -546,37 +547,34 @@ static void check_record(enum which f)
         memcpy(live, was, sizeof live);
 }
 
-/* The check that a block is to have. */
-static uint32_t check_of(const uint8_t *b)
+/* The new record of a block that was appended to stands behind those that it had, and every other octet stays. */
+static void check_appended(enum which f)
 {
-    uint32_t sum = 1;
-    for (uint32_t i = 0; i < ADSC_BLOCK_OCTETS - 2; i++)
-        sum = (sum + (i + 1) * b[i]) % 65521;
-    return sum;
+    const uint8_t *was = block_before(), *now = block.at;
+    size_t at = adsc_block_end(was), next = adsc_record_next(now, at);
+    must(adsc_record_kind(now, at) == kind && adsc_record_seconds(now, at) == seconds && adsc_record_length(now, at) == data_kept()
+             && memcmp(adsc_record_data(now, at), octets.at, data_kept()) == 0 && next == adsc_block_end(now), f, "another record");
+    must(memcmp(now, was, 4) == 0 && memcmp(now + adsc_block_first(), was + adsc_block_first(), at - adsc_block_first()) == 0
+             && memcmp(now + next, was + next, ADSC_BLOCK_OCTETS - next) == 0, f, "other octets changed");
 }
 
-/* An opened block has its number and zeros. One that was appended to has its number and its records as before, the new one behind them, and behind that what
- * stood there; one that was finished its number and its records as before, zeros behind them, and the check. The next append takes each, or has no room. */
-static void check_block(enum which f)
+/* A finished block has the number and the records that it had, and zeros behind; play takes its check. */
+static void check_finished(enum which f)
 {
-    static const uint8_t none[ADSC_BLOCK_OCTETS];
-    uint8_t copy[ADSC_BLOCK_OCTETS];
-    const uint8_t *was = block_before(), *now = block.at, *behind = f == BLOCK_APPEND ? was : none;
-    size_t at = f == BLOCK_OPEN ? adsc_block_first() : adsc_block_end(was), end = adsc_block_end(now), to = ADSC_BLOCK_OCTETS - (f == BLOCK_FINISH ? 2 : 0);
-    if (f == BLOCK_OPEN)
-        must(adsc_block_number(now) == number && end == at, f, "another block");
-    else
-        must(adsc_block_number(now) == adsc_block_number(was) && memcmp(now + adsc_block_first(), was + adsc_block_first(), at - adsc_block_first()) == 0, f, "other records");
-    if (f == BLOCK_APPEND)
-        must(adsc_record_kind(now, at) == kind && adsc_record_seconds(now, at) == seconds && adsc_record_length(now, at) == data_kept()
-                 && memcmp(adsc_record_data(now, at), octets.at, data_kept()) == 0 && adsc_record_next(now, at) == end, f, "another record");
-    else
-        must(end == at, f, "another length");
-    must(memcmp(now + end, behind + end, to - end) == 0, f, "other octets behind the payload");
-    must(f != BLOCK_FINISH || ((uint32_t)now[510] << 8 | now[511]) == check_of(now), f, "another check");
-    memcpy(copy, now, sizeof copy);
-    uint8_t next = adsc_block_append(copy, sizeof copy, ADSC_CALL_DOWN, 0, copy, 0);
-    must(next == ADSC_OK || next == ADSC_NO_ROOM, f, "the next append refuses the block with %d", next);
+    uint8_t fresh[ADSC_LINK_OCTETS] = {0};
+    const uint8_t *was = block_before(), *now = block.at;
+    size_t end = adsc_block_end(was);
+    must(memcmp(now, was, end) == 0, f, "other records");
+    for (size_t i = end; i < ADSC_BLOCK_OCTETS - 2; i++)
+        must(now[i] == 0, f, "octet %d behind the payload", (int)i);
+    must(adsc_block_play(fresh, sizeof fresh, now, ADSC_BLOCK_OCTETS, adsc_block_number(now)) != ADSC_CHECK_WRONG, f, "the check is wrong");
+}
+
+static void check_opened(enum which f)
+{
+    must(adsc_block_number(block.at) == number, f, "another number");
+    for (size_t i = 4; i < ADSC_BLOCK_OCTETS; i++)
+        must(block.at[i] == 0, f, "octet %d is not zero", (int)i);
 }
 
 /* A periodic contract that sends 5 minutes, the default: the interval is the 8 bits behind 8 presence bits. */
@@ -675,8 +673,12 @@ static void one_call(void)
         check_seconds(f);
         check_record(f);
     }
-    if (f >= BLOCK_OPEN && f <= BLOCK_FINISH)
-        check_block(f);
+    if (f == BLOCK_OPEN)
+        check_opened(f);
+    if (f == BLOCK_APPEND)
+        check_appended(f);
+    if (f == BLOCK_FINISH)
+        check_finished(f);
     if (f == READ_AIR || f == READ_GROUND)
         check_read(f);
     if (f >= WRITE_AIR)

@@ -520,7 +520,7 @@ def moved(line, answer):
 
 BLOCK_SIZES = (0, 1, 510, 511, 513, 520)
 BLOCK_NUMBERS = (0, 1, 255, 256, 65536, logmodel.LAST - 1, logmodel.LAST, logmodel.LAST + 1, 1 << 25, TOP - 1)
-KINDS_GIVEN = (*range(13), 255, 256, 262, TOP - 1)          # a kind is one octet: 262 is 6
+KINDS_GIVEN = (*range(13), 128, 255)
 DATA_SIZES = (0, 1, 2, 35, 36, 37, 127, 128, 129, 130, 131, 255, 256, 300)
 # How many octets of room are left where the record is put, more than it needs.
 ROOMS = (-6, -1, 0, 1, 100)
@@ -548,13 +548,13 @@ class Blocks:
     # A record more
 
     def block(self, used):
-        """A block whose payload has so many octets of any kind, finished or with anything behind."""
+        """A block whose payload has so many octets of any kind; behind it zeros or octets of any kind, and a check that is right or not."""
         block = logmodel.block_of(self.rng.choice((0, 1, 77, logmodel.LAST)), self.rng.randbytes(used))
-        return self.rng.choice((block, block[:6 + used] + self.rng.randbytes(506 - used)))
+        return self.rng.choice((block, block[:510] + bytes(2), block[:6 + used] + self.rng.randbytes(506 - used)))
 
     def fields(self, kind):
         """Seconds and data that the call of a kind has."""
-        word = hostmodel.named(logmodel.KINDS, kind % 256)
+        word = logmodel.KINDS[kind] if kind < len(logmodel.KINDS) else None
         sizes = (36,) if word == 'set' else DATA_SIZES if word in logmodel.WITH_DATA else (0,)
         return self.rng.choice((0, 1, 86400, TOP - 1)) if word == 'elapse' else 0, self.rng.randbytes(self.rng.choice(sizes))
 
@@ -565,13 +565,13 @@ class Blocks:
         self.add(name, 'block_append', spoil(block) if spoil else block, data, [kind, seconds])
 
     def spoils(self):
-        """Blocks that adsc_block_open has not made, and some that it could have."""
+        """Blocks that are no open ones, and such at the edges."""
         for size in BLOCK_SIZES:
             yield f'{size} octets', lambda block, size=size: (block + bytes(8))[:size]
-        for length in (504, 505, 510, 1000, 65535):
+        for length in (505, 510, 1000, 65535):
             yield f'length {length}', lambda block, length=length: block[:4] + length.to_bytes(2, 'big') + block[6:]
-        for number in BLOCK_NUMBERS:
-            yield f'block {number}', lambda block, number=number: number.to_bytes(4, 'big') + block[4:]
+        for number in (logmodel.LAST, logmodel.LAST + 1, TOP - 1):
+            yield f'number {number}', lambda block, number=number: number.to_bytes(4, 'big') + block[4:]
 
     def appending(self):
         for kind in KINDS_GIVEN:
@@ -586,28 +586,11 @@ class Blocks:
             self.append(f'room {room}, out of order', kind, *(1, b'') if kind != 3 else (0, b'x'), room)
         for name, spoil in self.spoils():
             for kind, seconds, data in ((3, 5, b''), (6, 0, b'abc'), (6, 1, b'abc'), (11, 0, b'')):
-                self.append(name, kind, seconds, data, self.rng.choice((None, None, -1)), spoil)
-
-    def finishing(self):
-        for used in (0, 1, 6, 250, 503, 504):
-            self.add(f'finish {used}', 'block_finish', self.block(used), b'', [])
-        for name, spoil in self.spoils():
-            self.add(f'finish {name}', 'block_finish', spoil(self.block(self.rng.choice((0, 6, 504)))), b'', [])
-
-    def keeping(self):
-        """A block opened, records appended, finished, played: each call on what the one before has left."""
-        log = self.logs()
-        first, at = log[:512], 6
-        block = hostmodel.call('block_open', bytes(512), b'', b'', [0]).link
-        while at < 6 + int.from_bytes(first[4:6], 'big'):
-            kind, seconds, size = first[at], int.from_bytes(first[at + 1:at + 5], 'big'), first[at + 5]
-            data, at = first[at + 6:at + 6 + size], at + 6 + size
-            self.add('keep', 'block_append', block, data, [kind, seconds])
-            block = hostmodel.call('block_append', block, data, b'', [kind, seconds]).link
-        self.add('keep', 'block_finish', block, b'', [])
-        block = hostmodel.call('block_finish', block, b'', b'', []).link
-        self.met['kept as the log has it'] += block == first
-        self.add('keep', 'block_play', bytes(LINK_OCTETS), block, [0])
+                self.append(name, kind, seconds, data, self.rng.choice((None, None, -1)) if kind == 6 else None, spoil)
+            self.add(f'finish: {name}', 'block_finish', spoil(self.block(self.rng.choice((0, 6, 300)))), b'', [])
+        for used in (0, 1, 6, 42, 300, 503, 504):
+            self.add('finish', 'block_finish', self.block(used), b'', [])
+            self.add('finish again', 'block_finish', logmodel.block_of(3, self.rng.randbytes(used)), b'', [])
 
     # Play
 
@@ -628,6 +611,18 @@ class Blocks:
             if after.number:
                 return
             link = after.link
+
+    def keeping(self):
+        """The first block of a log kept anew: each call on what the one before has left."""
+        first, at = self.logs()[:512], 6
+        block = hostmodel.call('block_open', bytes(512), b'', b'', [0]).link
+        while at < 6 + int.from_bytes(first[4:6], 'big'):
+            kind, seconds, data = first[at], int.from_bytes(first[at + 1:at + 5], 'big'), first[at + 6:at + 6 + first[at + 5]]
+            self.add('keep', 'block_append', block, data, [kind, seconds])
+            block = hostmodel.call('block_append', block, data, b'', [kind, seconds]).link
+            at += 6 + len(data)
+        self.add('keep', 'block_finish', block, b'', [])
+        self.met['kept as the log has it'] += hostmodel.call('block_finish', block, b'', b'', []).link == first
 
     def playing(self, records):
         log = self.logs()
@@ -660,7 +655,6 @@ class Blocks:
         while len(self.lines) < count:
             self.opening()
             self.appending()
-            self.finishing()
             self.keeping()
             self.playing(list(Records(self.rng).steps())[::9])
         return self.lines, self.met
@@ -672,16 +666,19 @@ def blocks(rng, count):
 
 # ---- what has to be met
 
-BLOCKS_DUE = ([f'{word} {number}' for word, numbers in (('block_open', (0, 5, 6)), ('block_append', (0, 20, 5, 6)), ('block_finish', (0, 20)), ('block_play', (0, 29, 20, 18, 19)))
+BLOCKS_DUE = ([f'{word} {number}' for word, numbers in (('block_open', (0, 5, 6)), ('block_append', (0, 20, 5, 6)), ('block_finish', (0, 20)),
+                                                            ('block_play', (0, 29, 20, 18, 19)))
                for number in numbers]
               + [f'room {room}: {"refused" if room < 0 else "accepted"}' for room in ROOMS] + [f'room {room}, out of order: refused' for room in ROOMS]
-              + [f'kind {kind}: {"accepted" if kind % 256 <= 10 else "refused"}' for kind in KINDS_GIVEN] + ['kept as the log has it']
+              + [f'kind {kind}: {"accepted" if kind <= 10 else "refused"}' for kind in KINDS_GIVEN] + ['kept as the log has it']
               + [f'kind {kind} with seconds: {"accepted" if kind == 3 else "refused"}' for kind in KINDS_GIVEN]
               + [f'play: {name}: refused' for name in logmaking.WRONG if name != 'no records'] + [f'play: {name}: accepted' for name in logmaking.GOOD]
               + [f'play {number}: {"accepted" if number <= logmodel.LAST else "refused"}' for number in BLOCK_NUMBERS]
               + [f'play {number} for another: refused' for number in BLOCK_NUMBERS]
               + [f'play settings of {size}: {"accepted" if size == 36 else "refused"}' for size in (0, 35, 36, 37, 40)]
-              + ['not zero behind: accepted', 'any number: accepted', 'play: accepted', 'play on a good one: accepted', 'play on another: refused',
+              + [f'{what}number {number}: {"accepted" if number == logmodel.LAST else "refused"}' for what in ('', 'finish: ')
+                 for number in (logmodel.LAST, logmodel.LAST + 1, TOP - 1)]
+              + ['finish: accepted', 'finish again: accepted', 'play: accepted', 'play on a good one: accepted', 'play on another: refused',
                  'play on nothing: refused', 'play on other zeros: refused', 'play of no record: accepted'])
 
 RECORDS_DUE = ([f'{timer} {how}: setting {setting}' for timer in TIMERS for how in ('runs', 'rests') for setting in SETTINGS]

@@ -7,8 +7,8 @@ logmodel.py.
 
 `WORD LINK OCTETS OUT N N ..` calls adsc_WORD on buffers of these octets (each field may be empty, its space stays) and numbers, and is
 answered with `NUMBER LENGTH LINK OUT`: the function's result, the length of a write (999 before the call), both lent buffers after it. For block_open,
-block_append and block_finish LINK is the block, and the numbers are its number, or kind and seconds; a kind is one octet, of a larger number the lowest. For
-block_play OCTETS is the block, and the number is the one it is to have.
+block_append and block_finish LINK is the block, and the numbers are its number, kind and seconds, and none; a kind is one octet, of a larger number the lowest.
+For block_play OCTETS is the block, and the number is the one it is to have.
 """
 
 import dataclasses
@@ -92,8 +92,8 @@ class Rules:
     kept_data: int = logmodel.KEPT
     last_block: int = logmodel.LAST
     settings_octets: int = logmodel.SETTINGS
-    behind: callable = lambda octets: bytes(len(octets))        # what stands behind the payload of a finished block
-    checked: callable = lambda octets, check: octets            # and in the place of the check after an append: what stood there
+    behind: callable = lambda octets: octets                    # what stands behind the record after an append,
+    finished: callable = lambda octets: bytes(len(octets))      # and behind the payload after a finish
     none: callable = lambda link: link == bytes(LINK_OCTETS)    # "A link record of 85 zeros is one that has no settings yet"
     log: logmodel.Rules = logmodel.RULES
     room: int = ANSWER_OCTETS
@@ -366,21 +366,14 @@ def block_opened(block, out, numbers, rules):
         return After(5, BEFORE, block, out)
     if len(block) != rules.block:
         return After(6, BEFORE, block, out)
-    return After(0, BEFORE, number.to_bytes(4, 'big') + bytes(rules.block - 4), out)
+    return After(0, BEFORE, number.to_bytes(4, 'big') + bytes(508), out)
 
 
 def not_open(block, rules):
-    """"20 (a block that is not of 512 octets, or whose number is not below ADSC_BLOCKS_MOST or payload length over ADSC_PAYLOAD_MOST)" """
-    number, used = int.from_bytes(block[:4], 'big'), int.from_bytes(block[4:6], 'big')
-    return 20 if len(block) != rules.block or number > rules.last_block or used > rules.payload else 0
-
-
-def block_finished(block, out, rules):
-    if not_open(block, rules):
-        return After(20, BEFORE, rules.left_as('link', block), rules.left_as('out', out))
-    end = 6 + int.from_bytes(block[4:6], 'big')
-    octets = block[:end] + rules.behind(block[end:510])
-    return After(0, BEFORE, octets + rules.log.check(octets).to_bytes(2, 'big'), out)
+    """"20 (a block that is not of 512 octets, or whose number or payload length is none that adsc_block_open and this function make)" """
+    if len(block) != rules.block:
+        return 20
+    return 20 if int.from_bytes(block[:4], 'big') > rules.last_block or int.from_bytes(block[4:6], 'big') > rules.payload else 0
 
 
 class Appending:
@@ -417,8 +410,17 @@ class Appending:
         data = self.data[:self.rules.kept_data]
         record = bytes([self.kind]) + self.seconds.to_bytes(4, 'big') + bytes([len(data)]) + data
         payload = self.block[6:6 + self.used] + record
-        octets = self.block[:4] + len(payload).to_bytes(2, 'big') + payload + self.block[6 + len(payload):]
-        return After(0, BEFORE, self.rules.checked(octets, self.rules.log.check(octets).to_bytes(2, 'big')), self.out)
+        octets = self.block[:4] + len(payload).to_bytes(2, 'big') + payload + self.rules.behind(self.block[6 + len(payload):510])
+        return After(0, BEFORE, octets + self.block[510:], self.out)
+
+
+def block_finished(block, out, rules):
+    """"Zeros behind the payload, and the check." """
+    if not_open(block, rules):
+        return After(20, BEFORE, rules.left_as('link', block), rules.left_as('out', out))
+    end = 6 + int.from_bytes(block[4:6], 'big')
+    octets = block[:end] + rules.finished(block[end:510])
+    return After(0, BEFORE, octets + rules.log.check(octets).to_bytes(2, 'big'), out)
 
 
 class Playing:

@@ -7,8 +7,8 @@ import dataclasses
 import functools
 
 import linkmodel
-import logmodel
-from logmodel import BLOCK, GROUNDS, HEAD, KINDS, ROOM, RULES, SETTINGS, WITH_DATA, Reader, block_of, log, packed, play, recorded
+from logmodel import BLOCK, GROUNDS, HEAD, KINDS, ROOM, RULES, WITH_DATA, Reader, block_of, log, packed, play, recorded
+from sidemodel import sends_default
 
 
 def recorder(**fields):
@@ -145,9 +145,7 @@ class NoRoomLeft(Reader):
 class WrittenAlone(Reader):
     """G92 read otherwise: a request that is not as it would be written is refused."""
     def data_unused(self, block):
-        return super().data_unused(block) or any(
-            logmodel.linkmodel.read('ground', record.data) is not None and logmodel.written('ground', record.data) != record.data
-            for record in self.records(block) if self.word(record) == 'req')
+        return super().data_unused(block) or any(sends_default(record.data) for record in self.records(block) if self.word(record) == 'req')
 
 
 class FreshLink(Reader):

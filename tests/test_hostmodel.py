@@ -206,7 +206,7 @@ bad('PC1 of a change', periodic(CHANGE, 61, 7200, 7200))
 bad('PC3', periodic(CANCEL, 61, 0, 7200))
 bad('EM1', record([0] * 7 + [61, 0], (0, 0, ACTIVE, 1, 2), intervals=(0, 7200)))
 
-# Blocks of the flight log (02, L6). The checks are summed by hand: 1, and each octet times its place.
+# Blocks of the flight log (02, L6). The checks are summed by hand: each octet times its place.
 ZEROS, ANY = '00' * 85, 'a5' * 512
 
 
@@ -223,22 +223,20 @@ def not_kept(what, number, link, call, data=''):
     check(what, f'block_append {link} {data}  {call}', f'{number} 999 {link} ')
 
 
-EMPTY, SETTINGS = block(0, '', 1), block(0, '00 00000000 24' + '0000003c' * 9, 1 + 42 * 6 + 36 * 12 + 60 * 288)
-check('block 0', f'block_open {ANY}  77 0', f'0 999 {block(0)} 77')
-check('block 1', f'block_open {ANY}   1', f'0 999 {block(1)} ')
-check('the last block', f'block_open {ANY}   16777215', f'0 999 {block(0xffffff)} ')
+EMPTY, SETTINGS = block(0), block(0, '00 00000000 24' + '0000003c' * 9, 1 + 42 * 6 + 36 * 12 + 60 * 288)
+check('block 0', f'block_open {ANY}  77 0', f'0 999 {EMPTY} 77')
+check('block 1', f'block_open {ANY}   1', '0 999 ' + block(1) + ' ')
+check('the last block', f'block_open {ANY}   16777215', '0 999 ' + block(0xffffff) + ' ')
 check('no block behind it', f'block_open {ANY}   16777216', f'5 999 {ANY} ')
 check('a block of 511', f'block_open {ANY[2:]}   0', f'6 999 {ANY[2:]} ')
 check('5 before 6', f'block_open {ANY}a5   4294967295', f'5 999 {ANY}a5 ')
-kept('settings', block(0), '0 0', block(0, '00 00000000 24' + '0000003c' * 9), '0000003c' * 9)
-kept('seconds', block(0), '3 258', block(0, '03 00000102 00'))
+kept('settings', EMPTY, '0 0', block(0, '00 00000000 24' + '0000003c' * 9), '0000003c' * 9)
+kept('seconds', EMPTY, '3 258', block(0, '03 00000102 00'))
 kept('data', block(1), '6 0', block(1, '06 00000000 02 2130'), '2130')
-kept('the first 129 octets', block(0), '9 0', block(0, '09 00000000 81' + '00' * 129), '00' * 129 + 'ff')
-kept('behind another', block(0, '0a 00000000 00'), '7 0', block(0, '0a 00000000 00 07 00000000 00'))
-kept('the check stays', block(0, '', 1), '7 0', block(0, '07 00000000 00', 1))
-kept('what stands behind stays', block(0, '00' * 503 + '01', 0, 0), '2 0', block(0, '02 00000000 00' + '00' * 497 + '01', 0, 6))
-kept('in the last block', block(0xffffff), '2 0', block(0xffffff, '02 00000000 00'))
-kept('a kind is an octet', block(0), '266 0', block(0, '0a 00000000 00'))
+kept('the first 129 octets', EMPTY, '9 0', block(0, '09 00000000 81' + '00' * 129), '00' * 129 + 'ff')
+kept('behind another, and the check stays', block(0, '0a 00000000 00', 7), '7 0', block(0, '0a 00000000 00 07 00000000 00', 7))
+kept('what stands behind it stays', block(0, '00' * 503 + '01', 0, 0), '2 0', block(0, '02' + '00' * 502 + '01', 0, 6))
+kept('a kind is one octet', EMPTY, '266 0', block(0, '0a 00000000 00'))
 FULL = block(0, '00' * 498)
 kept('to the last octet', FULL, '10 0', block(0, '00' * 498 + '0a 00000000 00'))
 not_kept('one octet more', 6, FULL, '6 0', '00')
@@ -246,25 +244,30 @@ for what, call, data in (('kind 11', '11 0', ''), ('kind 255', '255 0', ''), ('s
                          ('data of down', '10 0', '00'), ('35 octets of settings', '0 0', '00' * 35), ('37', '0 0', '00' * 37), ('no settings', '0 0', '')):
     not_kept(what, 5, EMPTY, call, data)
     not_kept(f'{what}, before 6', 5, FULL, call, data)
-for what, octets in (('511 octets', EMPTY[2:]), ('513 octets', EMPTY + '00'), ('a payload of 505', block(0, '', 0, 505)), ('a block behind the last', block(1 << 24))):
-    not_kept(what, 20, octets, '2 0')
-    not_kept(f'{what}, before 5', 20, octets, '11 0')
-    check(f'{what}, finished', f'block_finish {octets}  ', f'20 999 {octets} ')
-for what, before, after in (
-        ('of nothing', block(0, '', 77), EMPTY),
-        ('of another number', block(1), block(1, '', 1 + 4)),
-        ('of the last number', block(0xffffff), block(0xffffff, '', 1 + 255 * 9)),
-        ('of settings', block(0, '00 00000000 24' + '0000003c' * 9), SETTINGS),
-        ('of two records', block(0, '0a 00000000 00 07 00000000 00'), block(0, '0a 00000000 00 07 00000000 00', 1 + 12 * 6 + 10 * 7 + 7 * 13)),
-        ('with zeros behind', block(0, '02 00000000 00' + 'a5' * 498, 0, 6), block(0, '02 00000000 00', 1 + 6 * 6 + 2 * 7)),
-        ('of 504 octets', block(0, '00' * 498 + '0a 00000000 00'), block(0, '00' * 498 + '0a 00000000 00', 1 + 1 * 5 + 0xf8 * 6 + 10 * 505)),
-        ('again', SETTINGS, SETTINGS)):
-    check(f'a block {what}', f'block_finish {before}  77', f'0 999 {after} 77')
+for what, wrong in (('511 octets', EMPTY[2:]), ('513 octets', EMPTY + '00'), ('a payload of 505', block(0, '', 0, 505)), ('block 2^24', block(1 << 24)), ('nothing', '')):
+    not_kept(f'{what}, before 5', 20, wrong, '11 0')
+    check(f'finish: {what}', f'block_finish {wrong}  ', f'20 999 {wrong} ')
+
+
+def finished(what, number, payload, total, behind=''):
+    """The check is 1 and this sum."""
+    payload = payload.replace(' ', '')
+    before, after = block(number, payload + behind, 0xa5a5, len(payload) // 2), block(number, payload, (1 + total) % 65521)
+    check(f'finish: {what}', f'block_finish {before}  ', f'0 999 {after} ')
+    check(f'finish again: {what}', f'block_finish {after}  77', f'0 999 {after} 77')
+
+
+finished('block 0', 0, '', 0)
+finished('the last block', 0xffffff, '', 255 * (2 + 3 + 4))
+finished('settings', 0, '00 00000000 24' + '0000003c' * 9, 42 * 6 + 36 * 12 + 60 * 288)
+finished('seconds', 0, '03 00000102 00', 6 * 6 + 3 * 7 + 1 * 10 + 2 * 11)
+finished('zeros behind', 1, '06 00000000 02 2130', 4 + 8 * 6 + 6 * 7 + 2 * 12 + 0x21 * 13 + 0x30 * 14, behind='a5' * 496)
+finished('a full block', 0, 'ff' * 504, 1 * 5 + 0xf8 * 6 + 255 * (130305 - 21))       # 7 + .. + 510
 
 REQUEST = block(1, '01 00000000 02 3000', 1 + 4 + 8 * 6 + 7 + 2 * 12 + 0x30 * 13)
 check('settings played', f'block_play {ZEROS} {SETTINGS}  0', f'0 999 {FRESH} ')
 check('a request played', f'block_play {FRESH} {REQUEST} 77 1', f'0 999 {PENDING} 77')
-check('no record', f'block_play {ZEROS} {EMPTY}  0', f'0 999 {ZEROS} ')
+check('no record', f'block_play {ZEROS} {EMPTY[:-2]}01  0', f'0 999 {ZEROS} ')
 for what, number, link, octets, turn in (
         ('settings twice', 20, FRESH, SETTINGS, 0), ('no settings', 20, ZEROS, REQUEST, 1), ('out of turn', 19, FRESH, REQUEST, 0),
         ('not permitted', 20, PENDING, REQUEST, 1), ('check wrong', 18, FRESH, REQUEST[:-2] + '00', 1), ('18 before 19', 18, FRESH, REQUEST[:-2] + '00', 7),

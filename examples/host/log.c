@@ -14,7 +14,8 @@ static FILE *disk;
 static bool keep(size_t octets)
 {
     return adsc_block_finish(block, sizeof block) == ADSC_OK
-        && fseek(disk, (long)adsc_block_number(block) * ADSC_BLOCK_OCTETS, SEEK_SET) == 0 && fwrite(block, 1, octets, disk) == octets && fflush(disk) == 0;
+        && fseek(disk, (long)adsc_block_number(block) * ADSC_BLOCK_OCTETS, SEEK_SET) == 0
+        && fwrite(block, 1, octets, disk) == octets && fflush(disk) == 0;
 }
 
 /* Records a call that was accepted. Where the block has no room it is kept, and the next one takes the record. */
