@@ -17,12 +17,7 @@ pub extern "C" fn adsc_block_open(block: &mut [u8], number: u32) -> u8
 
 // A record behind those that the block has.
 #[no_mangle]
-pub extern "C" fn adsc_block_append(
-    block: &mut [u8],
-    kind: u8,
-    seconds: u32,
-    data: &[u8],
-) -> u8
+pub extern "C" fn adsc_block_append(block: &mut [u8], kind: u8, seconds: u32, data: &[u8]) -> u8
     ensures { λ r. ⌜ Keeps (blockAppended (now (block .entry)) (rec kind seconds (now («data» .entry)))) r (now (block .exit)) ⌝ }
 {
     append_record(block, kind, seconds, data)

@@ -4,21 +4,29 @@ use mathlib.Core.Path.{_≡_, refl, sym, ap, _∙_}
 use mathlib.Core.Bool.{Bool, true, false}
 use mathlib.Core.List.{List, [], _∷_, _++_, map, append-assoc, append-nil}
 use native.Mathlib.Omega.{arith}
-use lib.Dec.{eqb, leb, ltb}
+use borrow.Author.Tests.{eq-eqb}
+use lib.Dec.{T, eqb, leb, ltb}
 use lib.ListN.{length, getD, set, length-append}
 use Rattle.refusals.specs.Refusals.{OUT-OF-RANGE, NO-ROOM, CHECK-WRONG, NOT-READABLE, BAD-RECORD}
 use Rattle.link.specs.Step.{restAt}
 use Rattle.link.specs.Tests.{pick}
+use Rattle.link.specs.Watch.{settingOk}
 use Rattle.octets.specs.Octets.{Octets, zeros, wordAt, pairAt}
-use Rattle.ground_answer.specs.Record.{fresh}
-use Rattle.host_record.specs.RecordLayout.{linkOf}
-use Rattle.log.specs.Block.{BLOCK, ROOM, BLOCKS, blockOf, payload, judged}
+use Rattle.ground_answer.specs.Record.{fresh, good}
+use Rattle.ground_answer.specs.declared.record.Link.{Link}
+use Rattle.ground.proofs.Keeps.{Fine}
+use Rattle.bench.specs.Replies.{readySetup}
+use Rattle.host_record.specs.RecordLayout.{linkOf, recordOctets}
+use Rattle.host_record.specs.laws.Back.{record-back}
+use Rattle.host_record.proofs.Puts.{length-record}
+use Rattle.log.specs.Block.{BLOCK, ROOM, BLOCKS, blockOf, payload, allZero, judged}
 use Rattle.log.specs.Log.{All, got, bad, joined, readBlock}
 use Rattle.log.specs.Record.{Rec, Good, noted, recOctets, formOne}
 use Rattle.log.proofs.Blocks.{judged-good}
 use Rattle.log.proofs.FormOne.{lawful-one}
 use Rattle.log.proofs.Packs.{block-reads}
 use Rattle.log.proofs.Promises.{changed-refused}
+use Rattle.log.proofs.Tests.{all-zeros}
 use Rattle.log_play.specs.Plays.{blank, playBlock, playedIn}
 use Rattle.host_log.specs.Recording.{Kept, kept, Keeps, emptyBlock, blockOpened, isOpen, fieldsGood, recordPut, blockAppended, blockFinished, appendedAll, hostBlock}
 use Rattle.host_log.specs.Playing.{boxIn, boxGood, boxOut, playedOut, blockPlayed}
@@ -100,3 +108,40 @@ module _ (n : ℕ) (b : List ℕ) (rs : List Rec) (h : n < BLOCKS) (l : length b
   pub host-changed : (m i v : ℕ) → Octets (hostBlock n b rs) → i < 512 → v < 256 → (v ≡ getD (hostBlock n b rs) i 0 → ⊥)
       → readBlock formOne m (set (hostBlock n b rs) i v) ≡ bad CHECK-WRONG
   host-changed m i v o = changed-refused n m (hostBlock n b rs) i v o (ap (judged 0 n) in-form ∙ judged-good 0 n (joined formOne (map noted rs)) k h)
+
+-- ---- a block on the record of a good link is the block on that link, and on 85 zeros it is on a box without settings
+zeros-bad : good (linkOf (zeros 85)) ≡ false
+unfolding good settingOk linkOf
+zeros-bad = refl
+
+module _ (l : Link) (f : Fine l) where
+  good-is : good l ≡ true
+  good-is = go (good l) (f .fine)
+    where
+      go : (c : Bool) → T c → c ≡ true
+      go true t = refl
+      go false t = absurd t
+
+  long : length (recordOctets l) ≡ 85
+  long = length-record l (f .lefts) (f .settings)
+
+  back : linkOf (recordOctets l) ≡ l
+  back = record-back l (f .settings) (f .lefts) (f .states)
+
+  not-zeros : allZero (recordOctets l) ≡ false
+  not-zeros = go (allZero (recordOctets l)) refl
+    where
+      go : (c : Bool) → allZero (recordOctets l) ≡ c → c ≡ false
+      go false e = refl
+      go true e =
+          let z : recordOctets l ≡ zeros 85 = all-zeros (recordOctets l) e ∙ ap zeros long in
+          let b : good l ≡ false = ap good (sym back) ∙ ap (λ (s : List ℕ). good (linkOf s)) z ∙ zeros-bad in
+          sym good-is ∙ b
+
+  pub host-plays : (n : ℕ) (b : List ℕ) → blockPlayed (recordOctets l) n b ≡ playedOut (playedIn (readySetup l) (playBlock (readySetup l) n b)) (recordOctets l)
+  unfolding blockPlayed boxGood boxIn
+  host-plays n b = rw (not-zeros, back, eq-eqb (length (recordOctets l)) 85 long, good-is)
+
+pub host-starts : (n : ℕ) (b : List ℕ) → blockPlayed (zeros 85) n b ≡ playedOut (playedIn blank (playBlock blank n b)) (zeros 85)
+unfolding blockPlayed
+host-starts n b = rw (zeros-blank .0, zeros-blank .1)
