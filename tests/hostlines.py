@@ -624,6 +624,15 @@ class Blocks:
         self.add('keep', 'block_finish', block, b'', [])
         self.met['kept as the log has it'] += hostmodel.call('block_finish', block, b'', b'', []).link == first
 
+    def orders(self):
+        """Two grounds of 18, 19 and 20 at once, and data that is too long where its call would be accepted."""
+        zeros, first = bytes(LINK_OCTETS), logmodel.block_of(0, logmaking.spelt(3, 1))
+        self.add('play: 18 before 19', 'block_play', zeros, first[:511] + bytes([first[511] ^ 1]), [1])
+        self.add('play: 19 before 20', 'block_play', zeros, first, [1])
+        calls = logmaking.spelt(0, 0, (360).to_bytes(4, 'big') * 9) + logmaking.spelt(1, 0, b'\x30\x00')
+        for size in (129, 130):
+            self.add(f'play: {size} octets', 'block_play', zeros, logmodel.block_of(0, calls + logmaking.spelt(4, 0, bytes(size))), [0])
+
     def playing(self, records):
         log = self.logs()
         self.walk('play', log)
@@ -655,8 +664,9 @@ class Blocks:
         while len(self.lines) < count:
             self.opening()
             self.appending()
-            self.keeping()
             self.playing(list(Records(self.rng).steps())[::9])
+            self.keeping()
+            self.orders()
         return self.lines, self.met
 
 
@@ -670,7 +680,7 @@ BLOCKS_DUE = ([f'{word} {number}' for word, numbers in (('block_open', (0, 5, 6)
                                                             ('block_play', (0, 29, 20, 18, 19)))
                for number in numbers]
               + [f'room {room}: {"refused" if room < 0 else "accepted"}' for room in ROOMS] + [f'room {room}, out of order: refused' for room in ROOMS]
-              + [f'kind {kind}: {"accepted" if kind <= 10 else "refused"}' for kind in KINDS_GIVEN] + ['kept as the log has it']
+              + [f'kind {kind}: {"accepted" if kind <= 10 else "refused"}' for kind in KINDS_GIVEN] + ['kept as the log has it', 'play: 129 octets: accepted', 'play: 130 octets: refused']
               + [f'kind {kind} with seconds: {"accepted" if kind == 3 else "refused"}' for kind in KINDS_GIVEN]
               + [f'play: {name}: refused' for name in logmaking.WRONG if name != 'no records'] + [f'play: {name}: accepted' for name in logmaking.GOOD]
               + [f'play {number}: {"accepted" if number <= logmodel.LAST else "refused"}' for number in BLOCK_NUMBERS]
