@@ -1,26 +1,25 @@
 -- The ways out of a call on a lent block or record, one law each. Assumes nothing.
 use Prim.Native.Nat.{ℕ, _+_, _-_, _≤_, _<_}
-use mathlib.Core.Path.{_≡_, refl, sym, ap, _∙_}
+use mathlib.Core.Path.{_≡_, refl, ap, _∙_}
 use mathlib.Core.Bool.{Bool, true, false}
 use mathlib.Core.List.{List, [], _∷_, _++_, append-nil}
 use native.Mathlib.Omega.{arith}
 use borrow.Author.Tests.{eq-eqb, ne-eqb, lt-ltb, le-ltb, leb-true, eqb-true}
 use lib.Dec.{eqb, leb}
-use lib.ListN.{length, getD, drop, length-append, drop-of-length-le}
+use lib.ListN.{length, getD, length-append, drop-of-length-le}
 use lib.Seq.{sets, sets-eq}
 use types.Run.{OneOf, miss}
 use denote.Enum.Declared.{tagOf}
 use Rattle.link.specs.Tests.{pick}
 use Rattle.octets.specs.Octets.{quad, pair, pairAt, zeros}
 use Rattle.octets.specs.laws.Runs.{length-zeros, sets-append}
-use Rattle.script.specs.Fields.{Field, heldIn}
+use Rattle.script.specs.Fields.{heldIn}
 use Rattle.script.specs.declared.line.Held.{Held}
 use Rattle.script.specs.declared.line.Held.the-variants as held
 use Rattle.script.specs.Lines.{shapesOf}
 use Rattle.bench_line.specs.Words.{groundWords}
-use Rattle.bench.specs.declared.reply.Setup.{Setup}
 use Rattle.ground_answer.specs.Record.{good}
-use Rattle.host_record.specs.RecordLayout.{RECORD-OCTETS, linkOf, recordOctets, saved}
+use Rattle.host_record.specs.RecordLayout.{RECORD-OCTETS, linkOf, saved}
 use Rattle.log.specs.Block.{BLOCKS, ROOM, allZero, payload, blockOf}
 use Rattle.log.specs.Record.{Rec, rec, noted, recOctets}
 use Rattle.log.specs.Tapes.{tape, written, fitting, appended, appendedTo, follows, finished, finishedTo, Appends, Finishes}

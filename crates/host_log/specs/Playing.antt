@@ -1,5 +1,4 @@
 -- Playing the log on a record that a host in C keeps as octets. A refused call leaves the record.
-use mathlib.Core.Path.{_≡_}
 use mathlib.Core.Bool.{Bool, true, false, not}
 use mathlib.Core.List.{List}
 use Prim.Native.Nat.{ℕ}
