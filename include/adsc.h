@@ -56,7 +56,7 @@ enum adsc_refusal {
     ADSC_ABOVE_RANGE = 8,       /* sent value above its range or index unused */
     ADSC_EXTENSION_SET = 9,     /* extension bit set */
     ADSC_NOT_CARRIED = 10,      /* presence bit of an element not carried */
-    ADSC_DEFAULT_SENT = 11,     /* default interval sent */
+    /* 11 is retired: no function gives it, and the number is not used again. It was a default interval that is sent, which now reads */
     ADSC_LIST_OVER = 12,        /* list over 16 */
     ADSC_FILLING = 13,          /* filling not zero */
     ADSC_OCTETS_AFTER = 14,     /* octets after the PDU */
@@ -89,7 +89,7 @@ enum adsc_ground_place {
     ADSC_G_KIND = 0,
     ADSC_G_WHAT = 1,            /* the contract to cancel, the elements of a contract, or the reason of an abort */
     ADSC_G_SCALE = 2,           /* of the interval (periodic contract, modify emergency): ADSC_SECONDS or ADSC_MINUTES */
-    ADSC_G_INTERVAL = 3,        /* 1..59 seconds, 1..120 minutes. The default of a periodic contract is given too, as 5 minutes */
+    ADSC_G_INTERVAL = 3,        /* 1..59 seconds, 1..120 minutes. The default of a periodic contract is given as 5 minutes, sent or not; it is not written */
     ADSC_G_ADDRESS = 4,         /* moduli of a periodic contract, 1..255, each where its element is set */
     ADSC_G_PROFILE = 5,
     ADSC_G_GROUND_VECTOR = 6,
@@ -386,7 +386,7 @@ uint8_t adsc_down(uint8_t *link, size_t link_length, uint8_t *answer, size_t ans
  * Refuses: 16, then what the bits meet first of 7, 8, 9, 10, 12, then 13, 14, then 6. */
 uint8_t adsc_read_air(const uint8_t *octets, size_t octets_length, uint32_t *numbers, size_t numbers_length, uint8_t *list, size_t list_length);
 
-/* A ground PDU as ADSC_GROUND_NUMBERS numbers. Refuses: 16, then what the bits meet first of 7, 8, 9, 10, 11, 15, then 13, 14, then 6. */
+/* A ground PDU as ADSC_GROUND_NUMBERS numbers. Refuses: 16, then what the bits meet first of 7, 8, 9, 10, 15, then 13, 14, then 6. */
 uint8_t adsc_read_ground(const uint8_t *octets, size_t octets_length, uint32_t *numbers, size_t numbers_length);
 
 /* Numbers as a PDU, at the front of out; octets past its end stay, and *written says how many it has. A list with fewer octets than entries has zeros

@@ -7,7 +7,7 @@
 enum { FILL = 0xa5, SOME = 400, DRAWN = 8, MARGIN = 8, SPOILED = 1000, LONGEST = OCTETS + MARGIN };
 
 static size_t reads[256], writes[256];      /* inputs by refusal */
-static size_t inputs;
+static size_t inputs, defaults;             /* and contracts that send the default, read */
 static int spoil;
 
 /* Whether this kind is judged by hand: every number but those of the other kinds, one that names nothing too. */
@@ -56,6 +56,8 @@ static void read_both(int air, const uint8_t *octets, size_t length, size_t numb
                        : adsc_read_ground(octets, length, a.numbers[0], numbers_length);
     a.refusal[1] = air ? hand_read_air(octets, length, a.numbers[1], numbers_length, a.list[1], list_length)
                        : hand_read_ground(octets, length, a.numbers[1], numbers_length);
+    if (!air && !a.refusal[0] && (octets[0] & 0xfc) == 0x64 && (octets[1] & 7) == 4 && (octets[2] & 0xf8) == 0x20)
+        defaults++;
     if (a.refusal[1] != HAND_NOT_MINE || by_hand(air, octets))
         judge(&a, reads, air ? "octets of an aircraft PDU" : "octets of a ground PDU", octets, length);
 }
@@ -213,7 +215,7 @@ static struct pdu highest(const struct pdu *p)
     return top;
 }
 
-/* A contract with an interval of 4 minutes, so that one more is the default. */
+/* A contract with an interval of 4 minutes, so that one more is the default, sent. */
 static struct pdu next_to_default(const struct pdu *p)
 {
     struct pdu q = *p;
@@ -259,8 +261,10 @@ static void tell(const char *what, const size_t *counts, const uint8_t *due, int
 
 void alike_tell(void)
 {
-    static const uint8_t read[] = {0, 6, 7, 8, 9, 10, 11, 12, 13, 14, 16}, written[] = {0, 5, 6, 10, 12};
-    printf("%zu inputs answered alike by the archive and by hand\n", inputs);
+    static const uint8_t read[] = {0, 6, 7, 8, 9, 10, 12, 13, 14, 16}, written[] = {0, 5, 6, 10, 12};
+    printf("%zu inputs answered alike by the archive and by hand, %zu of them send 5 minutes\n", inputs, defaults);
+    if (!defaults)
+        stop("the default was never read", NULL);
     tell("reading by refusal,", reads, read, sizeof read);
     tell("writing by refusal,", writes, written, sizeof written);
 }

@@ -1,4 +1,4 @@
-/* Reports, negative acks and periodic contracts by hand, from 01 and 02 (L1), as one would write them in C for speed: the archive's second peer. Arguments,
+/* Reports, negative acks and periodic contracts by hand, from 01 and 02 (L1, L5), as one would write them in C for speed: the archive's second peer. Arguments,
  * numbers, refusals and their order are those of adsc.h. A PDU of another kind is HAND_NOT_MINE, once its index is read or its kind is looked at. For gcc, and
  * for processors that have the lowest octet first, as x86-64. */
 #include <stdbool.h>
@@ -211,7 +211,7 @@ INLINE bool air(struct coder *c, uint32_t *n, uint8_t *list)
     }
 }
 
-/* An interval of 5 minutes is never sent. */
+/* An interval of 5 minutes is never written; one that is sent is read (02, L5). */
 INLINE bool ground(struct coder *c, uint32_t *n)
 {
     enum { CARRIED = ADSC_HAS_ADDRESS | ADSC_HAS_PROFILE | ADSC_HAS_GROUND_VECTOR | ADSC_HAS_AIR_VECTOR | ADSC_HAS_WEATHER };
@@ -226,8 +226,6 @@ INLINE bool ground(struct coder *c, uint32_t *n)
     if (sent) {
         if (!number(c, scale, 0, 1) || !(*scale == ADSC_MINUTES ? number(c, interval, 1, 120) : number(c, interval, 1, 59)))
             return false;
-        if (*scale == ADSC_MINUTES && *interval == 5)
-            return refuse(c, ADSC_DEFAULT_SENT);
     } else if (!c->writing) {
         *scale = ADSC_MINUTES;
         *interval = 5;

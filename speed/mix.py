@@ -2,7 +2,8 @@
 """mix.py: the PDUs that both codecs read and write, the same in every run.
 
 A line `# NAME` opens a group; its PDUs follow as `air HEX` or `ground HEX`. Values are drawn over the whole
-message table, as tests/percoder.py has it.
+message table, as tests/percoder.py has it, and written by it: so none sends an interval of 5 minutes,
+which the archive would not write back.
 """
 
 import pathlib

@@ -18,7 +18,7 @@ import sys
 
 import percoder
 import sidemodel
-from sidemodel import LIMITS, MODULES, NUMBER, OCTETS, ORDER, REQUEST_TYPES, aircraft_pdu, asked, ground_pdu, read, settings, steps
+from sidemodel import LIMITS, MODULES, NUMBER, OCTETS, ORDER, REQUEST_TYPES, aircraft_pdu, asked, ground_pdu, read, settings, steps, written
 
 # States, in the order of 000's tables.
 STATES = {'DC': ('IDLE', 'PENDING', 'ACTIVE'),                              # 002:4895-4903, 000:63
@@ -189,12 +189,6 @@ TIMER_STEP = re.compile('(start|stop) (...)')
 
 
 @functools.lru_cache(maxsize=None)
-def written(octets):
-    """What goes for a PDU of the user's: what is written for the value read (F119)."""
-    return percoder.write('air', read('air', octets)).hex()
-
-
-@functools.lru_cache(maxsize=None)
 def own_pdu(name, number):
     """An aircraft PDU of the box's own."""
     return percoder.write('air', (name, number)).hex()
@@ -207,7 +201,7 @@ class Link(sidemodel.Link):
     def step(self, step, octets, send):
         """One step of a row of a module."""
         if step == 'send':
-            return [f'{send} {written(octets)}']
+            return [f'{send} {written("air", octets).hex()}']
         if step.startswith('send '):
             return [f'{send} {self.own(step[5:])}']
         if step == 'ind':

@@ -14,7 +14,7 @@ from airmodel import ASKED, LI_STATES, MAY_COME, MODULES, OWN, REASONS, RULES, S
 from airscripts import CELLS_DUE, REQUESTS
 from altering import (BLIND, altered_row, altered_steps, clock_mutants, loading, refusal_mutants, replaced, step_name, trace_mutants,
                       with_row)
-from sidemodel import GROUND_PDUS, ORDER, REQUEST_TYPES, read
+from sidemodel import GROUND_PDUS, ORDER, REQUEST_TYPES, read, sends_default, written
 
 
 def changed(link=Link, made=Box, **fields):
@@ -240,6 +240,18 @@ class FixedReason(Link):
         return super().step(step, octets, send)
 
 
+class ShownAsWritten(Link):
+    """A contract is shown as it would be written, not as it came."""
+    def step(self, step, octets, send):
+        return super().step(step, written('ground', octets) if step == 'ind' else octets, send)
+
+
+class DefaultInvalid(Box):
+    """A contract that sends the default is invalid, as before L5."""
+    def kind_of(self, call):
+        return f'{call.word} invalid' if call.word in ('start-ind', 'data') and sends_default(call.octets) else super().kind_of(call)
+
+
 def refusing(refused):
     """A box that refuses some requests besides."""
     class Refuses(Box):
@@ -261,6 +273,8 @@ DUTIES = {
 def other_mutants():
     for link in (EndsItself, BareInd, BareEnd, FixedReason):
         yield f'link.{link.__name__}', changed(link)
+    yield 'default.ShownAsWritten', changed(ShownAsWritten)
+    yield 'default.DefaultInvalid', changed(made=DefaultInvalid)
     for name, refused in DUTIES.items():
         yield f'duty.{name}', changed(made=refusing(refused))
     yield from refusal_mutants(changed, Link, WORDS, ASKED)

@@ -11,7 +11,7 @@ import functools
 import scriptmaking
 from airmodel import LI_ROWS, LI_STATES, MAY_COME, MODULES, REASONS, ROWS, RULES, SENDS, STATES, STOP_ROWS, Box, Link, call_of, family
 from scriptmaking import BEFORE, MOST, elapse_kind, no_call, set_kind
-from sidemodel import AIRCRAFT_PDUS, GROUND_PDUS, aircraft_pdu, asked, ground_pdu, lines
+from sidemodel import AIRCRAFT_PDUS, GROUND_PDUS, aircraft_pdu, asked, ground_pdu, lines, sends_default
 
 REQUESTS = ['req/' + name for name in AIRCRAFT_PDUS]
 COMES = [*GROUND_PDUS, 'unreadable', 'none']        # what a primitive brings
@@ -33,7 +33,8 @@ STANDS = {'IDLE': IDLE_PLACES, 'START': [*IDLE_PLACES, ('DC', 'PENDING'), ('EC',
 BRINGS = {'start-ind': 'contract', 'data': 'of a module', 'end-ind': 'cancel-all', 'ground-abort': 'provider abort'}
 KINDS = ['set in range', 'set out of range', 'req answer', 'req emergency', 'req no request', 'req unreadable', 'user-abort',
          'elapse 0', 'elapse runs on', 'elapse expires', 'elapse over', 'peer-abort', 'down', 'no call',
-         *(f'{word} {what}' for word in BRINGS for what in (BRINGS[word], 'other', 'unreadable', 'none'))]
+         *(f'{word} {what}' for word in BRINGS for what in (BRINGS[word], 'other', 'unreadable', 'none')),
+         *(f'{word} default sent' for word in ('start-ind', 'data'))]
 
 # What happened while EM3 ran, before its end is met; and settings.
 SINCE = ('nothing', 'time', 'a modify', 'another module', 'a refusal', 'an earlier run')
@@ -86,6 +87,8 @@ def kind_of(link, call):
     if call.word not in BRINGS:
         return call.word
     what = brought(call.octets)
+    if f'{call.word} default sent' in KINDS and sends_default(call.octets):
+        return f'{call.word} default sent'
     if what in MAY_COME.get(call.word, ('provider-abort',)):
         return f'{call.word} {BRINGS[call.word]}'
     return f'{call.word} {what if what in ("unreadable", "none") else "other"}'
@@ -334,5 +337,7 @@ class Maker(scriptmaking.Maker):
             if detail == 'unreadable' and rng.random() < 0.05:
                 return rng.randbytes(self.longest(word))
             return self.of_brought(detail)
+        if detail == 'default sent':
+            return rng.choice(self.pool.defaults)
         may = MAY_COME.get(word, ('provider-abort',))
         return rng.choice(of[rng.choice([name for name in GROUND_PDUS if (name in may) == (detail == BRINGS[word])])])

@@ -13,6 +13,7 @@ import os
 import sys
 
 from percoder import DEFAULTS, NEEDS_ONE, NOT_CARRIED, RANGES, TABLE, Writer, answer, pack, pieces, write
+from plaintext import REFUSALS
 
 P13 = '08' + '00' * 7 + '012c' + '00' * 4
 
@@ -28,7 +29,7 @@ LITERALS = [
     ('ground 3000', 'ok 3000'),             # P8
     ('ground 4080', 'ok 4080'),             # P9
     ('ground 640400', 'ok 640400'),         # P10
-    ('ground 640420', 'refused 11'),        # P11
+    ('ground 640420', 'ok 6000'),           # P11 (02, L5)
     ('air', 'refused 7'),                   # P12
     ('ground', 'refused 7'),
     ('air ' + P13, 'ok ' + P13),            # P13
@@ -41,9 +42,6 @@ LITERALS = [
     ('ground 42', 'refused 7'),
     ('air 3c', 'refused 9'),                # 3: extension bit before what follows
     ('air 48', 'refused 8'),                # 4: index before content
-    ('ground 660420', 'refused 11'),        # 5: 11 right after the interval
-    ('ground 640421', 'refused 11'),        # 6: and before 13, 14
-    ('ground 64042000', 'refused 11'),
     ('ground 1500', 'refused 13'),          # 7: 13 before 14
     ('air ' + 'ff' * 129, 'refused 16'),    # 8: 16 before all
     ('ground ' + '00' * 129, 'refused 16'),
@@ -53,6 +51,18 @@ LITERALS = [
     ('air 28035100', 'ok 28035100'),        #     entries in any order: 5, 1, 0
     ('air 18c0', 'refused 8'),              # 17: event type 12; request type 7 reads
     ('air 3b80', 'ok 3b80'),
+    # 5 minutes sent (02, L5): the form without them is written; behind them the rest is read
+    ('ground 6000', 'ok 6000'),
+    ('ground 66042000', 'ok 620000'),
+    ('ground 660420', 'refused 7'),
+    ('ground 648420', 'refused 7'),
+    ('ground 6404', 'refused 7'),
+    ('ground 6607fff8', 'refused 8'),       #     128 minutes, before a modulus of 256
+    ('ground 660427f8', 'refused 8'),       #     a modulus of 256
+    ('ground 640c20', 'refused 10'),        #     10 before the interval
+    ('ground 640421', 'refused 13'),        #     13, 14 last
+    ('ground 64042100', 'refused 13'),
+    ('ground 64042000', 'refused 14'),
     # Vectors and weather: P13 with each (002), nothing in them
     ('air 0820' + '00' * 6 + '012c' + '00' * 5, 'ok 0820' + '00' * 6 + '012c' + '00' * 5),
     ('air 0810' + '00' * 6 + '012c' + '00' * 5, 'ok 0810' + '00' * 6 + '012c' + '00' * 5),
@@ -209,13 +219,21 @@ def edges(family, value):
 
 
 def defaults():
-    """The default interval sent, with every other part of the contract there or not."""
-    for (form, name), (_, number) in DEFAULTS.items():
+    """The default interval sent, with every other part of the contract there or not: it is written without it. Cut, badly filled and too long it is
+    refused; an interval that is another by one bit is written as it is."""
+    for (form, name), default in DEFAULTS.items():
         for value in shapes(form):
-            sent = pieces('ground', (form, dict(value, **{name: ('minutes', number + 1)})))
+            value = (form, {**value, name: default})
+            octets = write('ground', value, with_default=True)
+            yield octets, 'ok ' + write('ground', value).hex()
+            yield octets[:-1], 'refused 7'
+            yield octets[:-1] + bytes([octets[-1] | 1]), 'refused 13'
+            yield octets + b'\0', 'refused 14'
+            sent = pieces('ground', value, with_default=True)
             place, = [place for place, piece in enumerate(sent) if piece.name == 'interval-minutes']
-            octets = replaced(sent, place, number - RANGES['interval-minutes'][0])
-            yield from (octets, octets[:3], octets + b'\0')    # the interval ends in the third octet
+            for bit in range(sent[place].width):
+                octets = replaced(sent, place, sent[place].sent ^ 1 << bit)
+                yield octets, 'ok ' + octets.hex()
 
 
 def walked():
@@ -232,8 +250,8 @@ def walked():
                     yield family, octets, 'ok'
                 for octets in edges(family, value):
                     yield family, octets, 'refused'
-    for octets in defaults():
-        yield 'ground', octets, 'refused 11'
+    for octets, wanted in defaults():
+        yield 'ground', octets, wanted
     inside = {name for _, _, _, name in cut}
     missed = [name for form in ('ground-vector', 'air-vector', 'mach-and-ias', 'weather') for name in parts_of(form) if name not in inside]
     assert not missed, missed
@@ -262,7 +280,7 @@ def main():
         lines[line] = answer(line)[0]
         assert lines[line].startswith(wanted), (line, lines[line], wanted)
     tally = collections.Counter(lines.values())
-    assert all(tally[f'refused {number}'] >= 2 for number in range(7, 18)), tally
+    assert all(tally[f'refused {number}'] >= 2 for number in REFUSALS) and not tally['refused 11'], tally
     os.makedirs(sys.argv[1], exist_ok=True)
     with open(os.path.join(sys.argv[1], 'stdin'), 'wb') as file:
         file.write(b''.join(line + b'\n' for line in lines))

@@ -7,11 +7,12 @@
 
 PROGRAM gets one line per PDU, `air HEX` or `ground HEX` (just `air` or `ground` when empty), and
 answers each with `ok HEX`, the octets written back from the value read, or `refused N`; with
---text, with the line for a person of plaintext.py, and no two PDUs with the same one.
+--text, with the line for a person of plaintext.py, and no two values with the same one. What is
+written back is the same octets unless the default was sent, and then the form without it.
 --shift moves the upper end of one range of percoder's table by one, --change alters another rule of
 it, --reword changes one text of plaintext's tables: the comparison must then fail. --list prints
-the ranges, --changes the rules; an offset is a rule that only --text shows. Exit 0: no differences,
-and everything was exercised.
+the ranges, --changes the rules that show; an offset shows with --text alone, how a default was sent
+without it. Exit 0: no differences, and everything was exercised.
 """
 
 import argparse
@@ -24,7 +25,7 @@ import percoder
 import plaintext
 from percoder import DEFAULTS, NEEDS_ONE, NOT_CARRIED, RANGES, TABLE, pack, pieces, width
 
-REFUSALS = range(7, 18)
+REFUSALS = plaintext.REFUSALS
 
 
 # Values
@@ -64,8 +65,9 @@ def random_value(rng, form):
 
 
 def random_pieces(rng, family, wanted=lambda sent: True):
+    """A default is sent now and then."""
     while True:
-        sent = pieces(family, random_value(rng, family))
+        sent = pieces(family, random_value(rng, family), with_default=rng.random() < 0.3)
         if wanted(sent):
             return sent
 
@@ -147,11 +149,11 @@ def presence(rng, family):
 
 
 def default(rng, family):
-    """An interval of 5 minutes sent in a periodic contract."""
-    value = dict(random_value(rng, 'periodic-contract'), interval=('minutes', 6))
-    sent = pieces('ground', ('periodic-contract', value))
+    """An interval of 5 minutes sent in a periodic contract, whole or not."""
+    value = dict(random_value(rng, 'periodic-contract'), interval=('minutes', 5))
+    sent = pieces('ground', ('periodic-contract', value), with_default=True)
     place, = places(sent, lambda piece: piece.name == 'interval-minutes')
-    return 'ground', altered(rng, sent, place, 5 - 1)
+    return 'ground', altered(rng, sent, place, sent[place].sent)
 
 
 def octets(rng, family):
@@ -224,7 +226,7 @@ def main():
     parser.add_argument('--changes', action='store_true')
     options = parser.parse_args(arguments)
     if options.list or options.changes:
-        print('\n'.join(RANGES if options.list else [name for name in percoder.CHANGES if options.text or name not in percoder.OFFSETS]))
+        print('\n'.join(RANGES if options.list else [name for name in percoder.CHANGES if name not in (percoder.SENDING if options.text else percoder.OFFSETS)]))
         return 0
     if not program:
         parser.error('no program to compare with')
@@ -260,16 +262,18 @@ def main():
     answers += ['(none)'] * (len(lines) - len(answers))
     wrong = [place for place in range(len(lines)) if answers[place] != expected[place]]
 
-    pdus = {line: answer for (_, line), text, answer in zip(lines, coded, answers) if text.startswith('ok')}
-    if options.text and len(set(pdus.values())) < len(pdus):
-        faults.append('two PDUs have the same answer')
+    said = {(line.split()[0], text): answer for (_, line), text, answer in zip(lines, coded, answers) if text.startswith('ok')}
+    if options.text and len(set(said.values())) < len(said):
+        faults.append('two values have the same answer')
+    defaults = sum(text.startswith('ok') and line.split()[1].decode() != text.split()[1] for (_, line), text in zip(lines, coded))
+    faults += ['no default that was sent was accepted'] if not defaults else []
     tally = collections.Counter(text.split()[0] if text.startswith('ok') else int(text.split()[1]) for text in coded)
     faults += [f'refusal {number} was never exercised' for number in REFUSALS if not tally[number]]
     faults += [f'no {family} {name} was accepted' for family, name in sorted(kinds - met)]
     print(f'seed {seed}' + (f', {options.shift} shifted' if options.shift else '') + (f', changed: {options.change}' if options.change else ''))
     print(f'lines {len(lines)}')
     print('expected ok', tally.pop('ok', 0), *(f'refused-{number} {tally[number]}' for number in sorted(tally)),
-          f'kinds {len(kinds & met)}/{len(kinds)}')
+          f'kinds {len(kinds & met)}/{len(kinds)} defaults-sent {defaults}')
     print(f'differences {len(wrong)}')
     for place in wrong[:5]:
         made, line = lines[place]

@@ -20,7 +20,7 @@ LENT = re.compile(r"&(mut )?(\w+)")
 CONSTANTS = {
     "refusals/src/lib.rt": {f"ADSC_{name}": name for name in (
         "NOT_PERMITTED", "CANNOT_OCCUR", "BAD_SETTING", "ELAPSE_OVER", "OUT_OF_RANGE", "NO_ROOM", "CUT_SHORT", "ABOVE_RANGE", "EXTENSION_SET", "NOT_CARRIED",
-        "DEFAULT_SENT", "LIST_OVER", "FILLING", "OCTETS_AFTER", "NO_ELEMENT", "INPUT_OVER", "SCRIPT_LINE", "BAD_RECORD")},
+        "LIST_OVER", "FILLING", "OCTETS_AFTER", "NO_ELEMENT", "INPUT_OVER", "SCRIPT_LINE", "BAD_RECORD")},
     "host_numbers/src/places.rt": {**{f"ADSC_{name}": name for name in (
         *("A_" + n for n in ("KIND", "WHAT", "DETAIL", "COUNT", "ELEMENTS", "SOUTH", "LATITUDE", "LATITUDE_MINUTES", "LATITUDE_TENTHS", "WEST", "LONGITUDE",
                              "LONGITUDE_MINUTES", "LONGITUDE_TENTHS", "LEVEL", "YEAR", "MONTH", "DAY", "HAS_SECONDS", "HOURS", "MINUTES", "SECONDS", "ACCURACY",
@@ -48,6 +48,9 @@ CONSTANTS = {
         **{f"ADSC_{module}_{state}": state for module in ("EC", "PC") for state in ("START_PENDING", "PENDING", "ACTIVE", "CANCEL")},
         "ADSC_DC_PENDING": "DC_PENDING", "ADSC_DC_ACTIVE": "DC_ACTIVE", "ADSC_EM_ACTIVE": "EM_ACTIVE", "ADSC_EM_MODIFY": "MODIFY"},
 }
+
+# Numbers of refusals that no name has again (02, L5).
+RETIRED = (11,)
 
 # The arms of a match on a kind: the number of each variant.
 KINDS = {
@@ -167,6 +170,8 @@ def problems(text, functions, due):
             found.append(f"{name}: not declared")
         elif have[name] != (result, parameters):
             found.append(f"{name}: expected: {result} ({', '.join(parameters)}): the header has: {have[name][0]} ({', '.join(have[name][1])})")
+    refusals = numbers(re.search(r"enum adsc_refusal \{.*?\n\};", text, flags=re.S)[0])
+    found += [f"{name}: {value} is retired" for name, value in refusals.items() if value in RETIRED]
     for name, value, place in due:
         if values.get(name) != value:
             found.append(f"{name}: {value} in {place}: the header has: {values.get(name)}")
@@ -211,6 +216,8 @@ def alterations(text, due):
         new = re.sub(rf"(\b{name}\b( = | )){value}\b", rf"\g<1>{value + 1}", text)
         yield new, f"{name} {value + 1}"
         yield text.replace(name, name + "X"), f"{name} renamed"
+    for number in RETIRED:
+        yield text.replace("    ADSC_BAD_RECORD", f"    ADSC_AGAIN = {number},\n    ADSC_BAD_RECORD"), f"{number} used again"
     yield text.replace("uint8_t adsc_down(", "uint8_t adsc_more(uint8_t *link, size_t link_length);\nuint8_t adsc_down("), "one more"
 
 

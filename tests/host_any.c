@@ -17,7 +17,7 @@
 #include <unistd.h>
 #include "adsc.h"
 
-enum { GUARD = 64, LONGEST = 200, WINDOW = GUARD + 4 * LONGEST + GUARD, USED = 4, MANY = 10, REFUSALS = 30 };
+enum { GUARD = 64, LONGEST = 200, WINDOW = GUARD + 4 * LONGEST + GUARD, USED = 4, MANY = 9, REFUSALS = 30 };
 
 /* ---- chance */
 
@@ -280,7 +280,7 @@ static const struct function {
     {"adsc_air_abort", {{&link_, ADSC_LINK_OCTETS}, {&octets, 0}, {&answer, ADSC_ANSWER_OCTETS}}, {29, 2, 6}},
     {"adsc_down", {{&link_, ADSC_LINK_OCTETS}, {&answer, ADSC_ANSWER_OCTETS}}, {29, 2, 6}},
     {"adsc_read_air", {{&octets, 0}, {&numbers, 4 * ADSC_AIR_NUMBERS}, {&list, ADSC_LIST_OCTETS}}, {7, 8, 9, 10, 12, 13, 14, 16, 6}},
-    {"adsc_read_ground", {{&octets, 0}, {&numbers, 4 * ADSC_GROUND_NUMBERS}}, {7, 8, 9, 10, 11, 13, 14, 15, 16, 6}},
+    {"adsc_read_ground", {{&octets, 0}, {&numbers, 4 * ADSC_GROUND_NUMBERS}}, {7, 8, 9, 10, 13, 14, 15, 16, 6}},
     {"adsc_write_air", {{&numbers, 0}, {&list, 0}, {&out, 0}, {&written, sizeof(size_t)}}, {5, 10, 12, 6}},
     {"adsc_write_ground", {{&numbers, 0}, {&out, 0}, {&written, sizeof(size_t)}}, {5, 10, 15, 6}},
 };
@@ -341,7 +341,7 @@ static uint8_t perform(enum which f)
 
 /* ---- what must hold */
 
-static uint64_t seed, made, scattered, met[FUNCTIONS][REFUSALS];
+static uint64_t seed, made, scattered, defaults, met[FUNCTIONS][REFUSALS];
 static enum which under_way;
 
 static void must(bool holds, enum which f, const char *what, ...)
@@ -462,11 +462,23 @@ static void check_record(enum which f)
         memcpy(live, was, sizeof live);
 }
 
-/* What was read writes back the same. */
+/* A periodic contract that sends 5 minutes, the default: the interval is the 8 bits behind 8 presence bits. */
+static bool sends_default(const uint8_t *at, size_t n)
+{
+    return n > 2 && (at[0] & 0xfc) == 0x64 && (at[1] & 7) == 4 && (at[2] & 0xf8) == 0x20;
+}
+
+/* What was read writes back the same unless the default was sent, and then to the form without it. */
 static void check_read(enum which f)
 {
     uint8_t back[ADSC_PDU_OCTETS];
     size_t n = 0;
+    if (f == READ_GROUND && sends_default(octets.at, octets.length)) {
+        defaults++;
+        octets.at[0] &= (uint8_t)~4;
+        octets.at[1] = (octets.at[1] & 0xf8) | (octets.at[2] & 7);
+        memmove(octets.at + 2, octets.at + 3, --octets.length - 2);
+    }
     uint8_t refusal = f == READ_AIR ? adsc_write_air(words(&numbers), numbers.length, list.at, list.length, back, sizeof back, &n)
                                     : adsc_write_ground(words(&numbers), numbers.length, back, sizeof back, &n);
     must(refusal == ADSC_OK && n == octets.length && memcmp(back, octets.at, n) == 0, f, "does not write back");
@@ -478,6 +490,7 @@ static void check_written(enum which f)
     size_t n = *(size_t *)(void *)written.at;
     lend(&octets, n);
     memcpy(octets.at, out.at, n);
+    must(f == WRITE_AIR || !sends_default(octets.at, n), f, "sends the default");
     lend(&numbers, ADSC_AIR_NUMBERS);
     lend(&list, ADSC_LIST_OCTETS);
     enum which reads = f == WRITE_AIR ? READ_AIR : READ_GROUND;
@@ -565,8 +578,9 @@ static void tell(void)
         for (const uint8_t *r = functions[f].refusals; r < functions[f].refusals + MANY && *r; r++)
             must(met[f][*r] > 0, f, "never refused with %d", *r);
     }
-    printf("seed %" PRIu64 ", calls %" PRIu64 ", accepted %" PRIu64 ", faults 0; on records of 85 random octets %" PRIu64 ", each 29\n",
-           seed, made, accepted, scattered);
+    must(defaults > 0, READ_GROUND, "never read the default");
+    printf("seed %" PRIu64 ", calls %" PRIu64 ", accepted %" PRIu64 ", faults 0; on records of 85 random octets %" PRIu64 ", each 29; the default sent %" PRIu64 "\n",
+           seed, made, accepted, scattered, defaults);
 }
 
 int main(int n, char **words)

@@ -1,4 +1,4 @@
-"""A model of the ground side of one link, written from page 01 alone, and its intervals from L2 of 02.
+"""A model of the ground side of one link, written from page 01 alone, and its intervals from L2 and L5 of 02.
 
 It shares nothing with the box it is compared with but these pages; it stands on sidemodel.py, and
 reads PDUs with percoder.py. First the tables of 01, as data in the page's order with its words above
@@ -16,7 +16,7 @@ import sys
 
 import percoder
 import sidemodel
-from sidemodel import AIRCRAFT_PDUS, LIMITS, MODULES, NUMBER, OCTETS, ORDER, aircraft_pdu, asked, ground_pdu, read, settings, steps
+from sidemodel import AIRCRAFT_PDUS, LIMITS, MODULES, NUMBER, OCTETS, ORDER, aircraft_pdu, asked, ground_pdu, read, settings, steps, written
 
 # Events of the tables: requests are `req/` and the ground PDU, the rest are aircraft PDUs.
 DOWNLINK = AIRCRAFT_PDUS
@@ -175,7 +175,8 @@ LONGEST = 7200
 # timer's setting." Refusal 29 reads "no more than interval plus grace" for PC2.
 LOADS = {timer: ('setting', 'force') if timer == 'PC2' else ('setting',) for timer, _, _ in WATCH}
 
-# "seconds 1..59 (0) or minutes 1..120 (1)", and 5 minutes where the contract leaves it out, as percoder.py reads it.
+# "seconds 1..59 (0) or minutes 1..120 (1)", and 5 minutes where the contract leaves it out, as percoder.py reads it. Sent or not, they are left
+# out of what goes (02, L5).
 UNITS = {'seconds': 1, 'minutes': 60}
 
 
@@ -276,7 +277,7 @@ class Link(sidemodel.Link):
     def step(self, step, octets, send):
         """One step of a row of a module."""
         if step == 'send':
-            return [f'{send} {octets.hex()}']
+            return [f'{send} {written("ground", octets).hex()}']
         if step == 'send ack':
             return [f'{send} {CANCEL_EMERGENCY_ACK}']
         if step == 'ind':

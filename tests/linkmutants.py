@@ -15,6 +15,7 @@ from linkmodel import (ASKED, DOWNLINK, INTERVAL_STATES, LIMITS, MODULES, ORDER,
                        read, seconds, trace)
 from linkscripts import LI_STATES, STATES
 from percoder import DEFAULTS
+from sidemodel import sends_default
 
 def changed(link=Link, made=Box, **fields):
     return functools.partial(trace, rules=dataclasses.replace(RULES, **{'order': BLIND, **fields}), link=link, made=made)
@@ -319,6 +320,27 @@ class RefusedAsks(Box):
         return answer
 
 
+class SentAsGiven(Link):
+    """A request goes as its octets came, with the default."""
+    def step(self, step, octets, send):
+        return [f'{send} {octets.hex()}'] if step == 'send' else super().step(step, octets, send)
+
+
+class DefaultAsksNothing(Link):
+    """5 minutes that are sent leave the interval asked for as it was, and count a minute where there was none."""
+    def set_intervals(self, todo, octets):
+        if 'ask' in todo and sends_default(octets):
+            self.asked = self.asked or 60
+        else:
+            super().set_intervals(todo, octets)
+
+
+class DefaultUnread(Box):
+    """A request that sends the default is 17, as before L5."""
+    def not_readable(self, call):
+        return super().not_readable(call) or (17 if call.word == 'req' and sends_default(call.octets) else 0)
+
+
 ABSENT = DEFAULTS['periodic-contract', 'interval']
 
 # How an interval is counted, in seconds.
@@ -349,6 +371,9 @@ def interval_load_mutants():
                  LoadsADayAtMost):
         yield f'interval.{link.__name__}', changed(link)
     yield 'interval.RefusedAsks', changed(made=RefusedAsks)
+    for link in (SentAsGiven, DefaultAsksNothing):
+        yield f'default.{link.__name__}', changed(link)
+    yield 'default.DefaultUnread', changed(made=DefaultUnread)
 
 
 def interval_record_mutants():

@@ -12,6 +12,7 @@ from compare_coder import random_value
 from linkmodel import DOWNLINK, REQUESTS, RULES, Box, call_of, downlink, request, seconds
 from percoder import DEFAULTS, write
 from scriptmaking import BEFORE, MOST, elapse_kind, no_call, set_kind
+from sidemodel import sends_default
 
 LI_STATES = ('IDLE', 'START', 'ACTIVE', 'END')
 EVENTS = [*REQUESTS, *DOWNLINK, 'unreadable']
@@ -46,7 +47,7 @@ ENDS = [*STARTS, *SIZES, 'another interval', *((timer, has) for timer, _, _ in R
 EDGES = {-1: 'a second less', 0: 'its end', 1: 'a second more'}
 
 # Kinds of lines, as LI meets them.
-KINDS = ['set in range', 'set out of range', 'req contract', 'req change', 'req cancel-all', 'req no request',
+KINDS = ['set in range', 'set out of range', 'req contract', 'req default sent', 'req change', 'req cancel-all', 'req no request',
          'req unreadable', 'user-abort', 'elapse 0', 'elapse runs on', 'elapse expires', 'elapse over',
          'start-cnf reads', 'start-cnf unreadable', 'start-rej', 'data reads', 'data unreadable', 'end-cnf',
          'peer-abort', 'air-abort provider abort', 'air-abort other', 'air-abort unreadable', 'down', 'no call']
@@ -98,6 +99,8 @@ def kind_of(link, call):
         return 'no call'
     if call.word == 'set':
         return set_kind(call)
+    if call.word == 'req' and sends_default(call.octets):
+        return 'req default sent'
     if call.word == 'req':
         return f'req {call.kind}' if call.event else 'req unreadable'
     if call.word == 'elapse':
@@ -211,7 +214,7 @@ def moves(states):
 
 def lists(link, kind):
     """Whether LI lists a kind of line at its state."""
-    word, _, detail = kind.partition(' ')
+    word, _, detail = kind.replace('default sent', 'contract').partition(' ')
     return (link.li, detail if word == 'req' else word) in RULES.li
 
 
@@ -353,6 +356,8 @@ class Maker(scriptmaking.Maker):
             if word in ('start-cnf', 'air-abort') and rng.random() < 0.05:
                 return rng.randbytes(self.longest(word))
             return rng.choice(bad['ground' if word == 'req' else 'air'])
+        if detail == 'default sent':
+            return rng.choice(self.pool.defaults)
         if word == 'req':
             return rng.choice(of[rng.choice([event for event, kind in REQUESTS.items() if kind == detail])])
         if detail == 'provider abort':

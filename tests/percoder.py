@@ -1,4 +1,5 @@
-"""A PER coder of both ADS PDU families, written from page 01; vectors and weather from the module of 002 (02, L1).
+"""A PER coder of both ADS PDU families, written from page 01; vectors and weather from the module of 002 (02, L1), and the interval
+of 5 minutes from L5 of 02.
 
 It shares nothing with the box it is compared with. First the message table of 01, as data in the
 page's order and words; below it a coder that walks the table (ITU-T X.691, basic unaligned).
@@ -8,7 +9,8 @@ page's order and words; below it a coder that walks the table (ITU-T X.691, basi
 
 family is 'air' or 'ground'. Values are plain: whole numbers are int, NULL is None, a choice is
 (name, content), a list is a list, a name is a tuple of eight numbers, and a group of fields is a
-dict that lacks its absent parts. Only an absent interval reads as something: its default.
+dict that lacks its absent parts. Only an absent interval reads as something: its default, which may
+be sent too. What is written never has it.
 """
 
 import functools
@@ -150,6 +152,7 @@ TABLE = {
 # A group of fields may give its presence bits as one number, as a host does; it then names fields that are absent too, which are no part of it.
 PRESENCE = 'presence'
 
+# "`64 04 20` is good and reads as 5 minutes. We still omit it." (02, L5)
 DEFAULTS = {('periodic-contract', 'interval'): ('minutes', 5)}
 NEEDS_ONE = {'event-contract'}
 
@@ -216,13 +219,10 @@ class Reader:
         judge_presence(form, optional, present)
         value = {name: self.read(content) for name, content in required}
         for (name, content), there in zip(optional, present):
-            default = DEFAULTS.get((form, name))
             if there:
                 value[name] = self.read(content)
-                if default and value[name] == default:
-                    raise Refused(11)       # right after the interval
-            elif default:
-                value[name] = default
+            elif (form, name) in DEFAULTS:
+                value[name] = DEFAULTS[form, name]
         return value
 
     def list(self, form, content):
@@ -254,8 +254,9 @@ Piece = namedtuple('Piece', 'kind name sent width')
 
 
 class Writer:
-    def __init__(self):
+    def __init__(self, with_default=False):
         self.pieces = []
+        self.with_default = with_default    # as another sender may; ours never sends a default
 
     def put(self, kind, name, sent, bits):
         self.pieces.append(Piece(kind, name, sent, bits))
@@ -290,7 +291,7 @@ class Writer:
                 raise Refused(5)
             return [bool(value[PRESENCE] >> place & 1) for place in reversed(range(len(optional)))]
         # The default interval is never sent, whether the value names it or not.
-        return [name in value and value[name] != DEFAULTS.get((form, name), ()) for name, _ in optional]
+        return [name in value and (self.with_default or value[name] != DEFAULTS.get((form, name), ())) for name, _ in optional]
 
     def fields(self, form, value, optional, required):
         known = [PRESENCE] + [name for name, _ in optional + required]
@@ -318,8 +319,8 @@ class Writer:
             self.write(content, entry)
 
 
-def pieces(family, value):
-    writer = Writer()
+def pieces(family, value, with_default=False):
+    writer = Writer(with_default)
     writer.write(family + '*', value)
     return writer.pieces
 
@@ -331,8 +332,16 @@ def pack(sent):
     return int('1' + bits, 2).to_bytes(len(bits) // 8 + 1, 'big')[1:]
 
 
-def write(family, value):
-    return pack(pieces(family, value))
+def write(family, value, with_default=False):
+    return pack(pieces(family, value, with_default))
+
+
+def written_back(family, octets, value):
+    """What octets that read as a value are written back to."""
+    written = write(family, value)
+    # "octets accepted write back to the same octets unless the default was sent, and then to the form without it" (02, L5)
+    assert octets in (written, write(family, value, with_default=True)), octets.hex()
+    return written
 
 
 LINE = re.compile(rb'(air|ground)(?: ((?:[0-9a-f]{2})+))?')
@@ -349,8 +358,7 @@ def answer(line):
         value = read(family, octets)
     except Refused as refusal:
         return f'refused {refusal.number}', None
-    assert write(family, value) == octets, line     # what reads well is the written form
-    return f'ok {octets.hex()}', (family, value[0])
+    return f'ok {written_back(family, octets, value).hex()}', (family, value[0])
 
 
 def shift(name):
@@ -382,7 +390,19 @@ def offset(name):
     RANGES[name] = (low - 1, high - 1)
 
 
-# Rules of vectors and weather changed, each alone, to test that a comparison finds it. Only a line for a person or a host's numbers show an offset.
+class RefusingReader(Reader):
+    """A default that is sent is refused, as before L5."""
+    def fields(self, form, optional, required):
+        start = self.place
+        value = super().fields(form, optional, required)
+        for place, (name, _) in enumerate(optional):
+            if self.bits[start + place] == '1' and value[name] == DEFAULTS.get((form, name), ()):
+                raise Refused(11)
+        return value
+
+
+# Rules of vectors and weather and of the default changed, each alone, to test that a comparison finds it. Only a line for a person or a host's numbers show an
+# offset, only octets that are written back how they were sent.
 EXCHANGED = [('report', 'ground-vector', 'air-vector'), ('report', 'air-vector', 'weather'), ('report', 'address', 'ground-vector'),
              ('report', 'weather', 'short-term-intent'), ('report', 'projected-profile', 'ground-vector'),
              ('emergency-report', 'address', 'ground-vector'), ('ground-vector', 'track', 'speed'), ('ground-vector', 'speed', 'rate'),
@@ -390,7 +410,11 @@ EXCHANGED = [('report', 'ground-vector', 'air-vector'), ('report', 'air-vector',
              ('weather', 'speed', 'direction'), ('weather', 'temperature', 'turbulence')]
 OFFSETS = {f'{name}.offset': functools.partial(offset, name) for name in (
     'track', 'ground-speed', 'ground-rate', 'heading', 'mach', 'air-rate', 'wind-direction', 'temperature')}
+SENDING = {'default.written-as-sent': lambda: globals().update(written_back=lambda family, octets, value: octets)}
 CHANGES = {
+    'default.refused': lambda: globals().update(Reader=RefusingReader),
+    'default.one-more': lambda: DEFAULTS.update({('periodic-contract', 'interval'): ('minutes', 6)}),
+    **SENDING,
     **{f'{form}.{one}.{other}': functools.partial(exchange, form, one, other) for form, one, other in EXCHANGED},
     **{f'{form}.needs-one': functools.partial(NEEDS_ONE.add, form) for form in ('ground-vector', 'air-vector', 'weather')},
     **{f'{form}.{name}.extension': functools.partial(extend, form, name) for form, name in (

@@ -34,9 +34,9 @@ OTHERWISE = {
     'under-25nm': 'under 0.25 nm',                      # the comment beside it
     'under-05nm': 'under 0.05 nm',
 }
-REFUSALS = {                                            # 01, refusal numbers
+REFUSALS = {                                            # 01, refusal numbers; 11 is retired (02, L5)
     7: 'input ends inside a field', 8: 'sent value above its range or index unused', 9: 'extension bit set',
-    10: 'presence bit of an element not carried', 11: 'default interval sent', 12: 'list over 16',
+    10: 'presence bit of an element not carried', 12: 'list over 16',
     13: 'filling not zero', 14: 'octets after the PDU', 15: 'event contract with no element',
     16: 'input over 128 octets', 17: 'line not readable',
 }

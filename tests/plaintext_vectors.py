@@ -12,7 +12,7 @@ import sys
 
 import plaintext
 from coder_vectors import LITERALS, P13, UNREADABLE
-from percoder import write
+from percoder import answer, write
 
 WRITTEN = {
     'air 00': 'air: cancel emergency',
@@ -25,7 +25,9 @@ WRITTEN = {
     'ground 3000': 'ground: demand contract',
     'ground 4080': 'ground: event contract, waypoint change',
     'ground 640400': 'ground: periodic contract every 1 minute',
-    'ground 640420': 'refused 11 (default interval sent)',
+    'ground 640420': 'ground: periodic contract every 5 minutes',
+    'ground 6000': 'ground: periodic contract every 5 minutes',
+    'ground 66042008': 'ground: periodic contract every 5 minutes, aircraft address every 2nd report',
     'air': 'refused 7 (input ends inside a field)',
     'air ' + P13: 'air: demand report, 00 00 00.0 N, 000 00 00.0 E, level 0 ft, 1996-01-01 00:00, '
                   'accuracy 0 (complete loss), multiple units no, acas no',
@@ -179,13 +181,14 @@ def main():
         sys.exit('usage: plaintext_vectors.py OUTDIR')
     lines = {line.encode(): None for line in WRITTEN}
     lines.update((f'{family} {write(family, value).hex()}'.encode(), None) for family, value in values())
+    lines.update((f'ground {write("ground", value, with_default=True).hex()}'.encode(), None) for value in grounds())
     lines.update((line.encode(), None) for line, _ in LITERALS)
     lines.update((line, None) for line in UNREADABLE)
     lines = {line: plaintext.answer(line) for line in lines}
     for line, text in WRITTEN.items():
         assert lines[line.encode()] == text, (line, lines[line.encode()])
-    told = [text for text in lines.values() if not text.startswith('refused')]
-    assert len(told) == len(set(told)), 'two PDUs have one text'
+    told = {(line.split()[0], answer(line)[0]): text for line, text in lines.items() if not text.startswith('refused')}
+    assert len(told) == len(set(told.values())), 'two values have one text'
     for table, texts in plaintext.WORDS.items():
         for place, text in enumerate(texts):                # each name of each table is met
             texts[place] = text + ' or not'

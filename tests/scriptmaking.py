@@ -7,7 +7,7 @@
 import collections
 
 from compare_coder import DAMAGES, random_value
-from percoder import write
+from percoder import DEFAULTS, write
 from sidemodel import LIMITS
 
 MOST = LIMITS['elapse']
@@ -15,7 +15,7 @@ BEFORE = 'no link'
 
 
 class Pool:
-    """PDUs of every event, and octets that are none. A source is a family, what names its PDUs, and the events."""
+    """PDUs of every event, those that send a default too, and octets that are none. A source is a family, what names its PDUs, and the events."""
     EACH = 12
 
     def __init__(self, rng, sources):
@@ -25,7 +25,15 @@ class Pool:
                 octets = write(family, random_value(rng, family))
                 if len(self.of[name_of(octets)]) < self.EACH:
                     self.of[name_of(octets)].append(octets)
+        self.defaults = [self.with_default(rng) for _ in range(self.EACH)]
+        names = {family: name_of for family, name_of, _ in sources}
+        for octets in self.defaults:
+            self.of[names['ground'](octets)].append(octets)
         self.bad = {family: self.unreadable(rng, family, name_of) for family, name_of, _ in sources}
+
+    def with_default(self, rng):
+        (form, name), default = rng.choice(list(DEFAULTS.items()))
+        return write('ground', (form, {**random_value(rng, form), name: default}), with_default=True)
 
     def unreadable(self, rng, family, name_of):
         found = [b'', bytes(129), b'\x80', b'\x99' * 5, write('air', ('cancel-emergency', None)) + b'\0']

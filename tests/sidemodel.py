@@ -2,6 +2,7 @@
 their refusals, the trace. Tables and steps are a side's own (linkmodel.py, airmodel.py).
 
     aircraft_pdu(octets), ground_pdu(octets) -> the name of a PDU, None if it does not read
+    written(family, octets) -> the octets that go for a PDU
     Link, Call, Box: what a side's model of them stands on
     trace(head, box, script octets) -> trace octets
 """
@@ -43,6 +44,17 @@ def read(family, octets):
         return percoder.read(family, octets)
     except percoder.Refused:
         return None
+
+
+@functools.lru_cache(maxsize=None)
+def written(family, octets):
+    """What goes for a PDU of the user's: what is written for the value read (F119; 02, L5)."""
+    return percoder.write(family, read(family, octets))
+
+
+def sends_default(octets):
+    """Whether a ground PDU reads, and is not as it is written."""
+    return read('ground', octets) is not None and written('ground', octets) != octets
 
 
 @functools.lru_cache(maxsize=None)

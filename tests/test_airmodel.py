@@ -33,6 +33,7 @@ TABLES = {
         req PER+   | 1       | ACTIVE  | 1                        | ACTIVE
         req PER    | 1       | 1       | ACTIVE                   | 1
         data 640400 | PENDING | abort  | ACTIVE-PENDING           | abort
+        data 640420 | PENDING | abort  | ACTIVE-PENDING           | abort
         data 14    | abort   | abort   | IDLE ind 14 data-req 3a00 | abort''',
     'EM': '''
         what       | IDLE    | ACTIVE                       | MODIFY | CANCEL
@@ -75,6 +76,8 @@ LI_TABLE = '''
     start-ind 3000  | START ind 3000                        | 2                            | 2
     start-ind 4080  | START ind 4080                        | 2                            | 2
     start-ind 6000  | START ind 6000                        | 2                            | 2
+    start-ind 640420 | START ind 640420                     | 2                            | 2
+    start-ind 640421 | IDLE abort-req 4100 ind abort 2      | 2                            | 2
     start-ind       | IDLE abort-req 4100 ind abort 2       | 2                            | 2
     start-ind 00    | IDLE abort-req 4100 ind abort 2       | 2                            | 2
     start-ind 20    | IDLE abort-req 4100 ind abort 2       | 2                            | 2
@@ -95,7 +98,8 @@ LI_TABLE = '''
     data            | 2                                     | 2                            | IDLE abort-req 4100 ind abort 2
     data 00         | 2                                     | 2                            | IDLE abort-req 4100 ind abort 2
     data 74         | 2                                     | 2                            | IDLE abort-req 4100 ind abort 2
-    data 640420     | 2                                     | 2                            | IDLE abort-req 4100 ind abort 2
+    data 640420     | 2                                     | 2                            | ACTIVE ind 640420
+    data 64042000   | 2                                     | 2                            | IDLE abort-req 4100 ind abort 2
     end-ind         | 2                                     | 2                            | IDLE end-rsp
     end-ind 00      | 2                                     | 2                            | IDLE ind 00 end-rsp 3b00
     end-ind 0000    | 2                                     | 2                            | IDLE abort-req 4100 ind abort 2

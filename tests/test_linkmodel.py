@@ -1,4 +1,4 @@
-"""Checks of linkmodel.py against page 01 and L2 of 02: the page's example, and traces and records worked out by hand."""
+"""Checks of linkmodel.py against page 01 and L2 and L5 of 02: the page's example, and traces and records worked out by hand."""
 
 from byhand import Checks
 from linkmodel import RULES, Link, trace
@@ -129,7 +129,8 @@ CASES = {
         req 20          | refused 1
         req 74          | refused 1
         req             | refused 17
-        req 640420      | refused 17
+        req 640421      | refused 17
+        req 64042000    | refused 17
         req 3000        | ok start-req 3000 start DC1
         req 20          | refused 1
         req 4000        | refused 17''',
@@ -145,6 +146,22 @@ CASES.update({
         elapse {interval + 59}  | ok
         elapse 1                | ok stop PC2 abort-req 74 ind abort 4"""
     for asked, interval in (('640000', 1), ('6403a0', 59), ('640400', 60), ('6000', 300), ('6407b8', 7200))})
+# 5 minutes that are sent go as they are written, without them (02, L5).
+CASES['5 minutes sent'] = '''
+        req 640420      | ok start-req 6000 start PC1
+        req 640420      | refused 1
+        start-cnf 3880  | ok stop PC1 ind 3880 start PC2
+        elapse 359      | ok
+        data PER        | ok stop PC2 ind PER start PC2
+        elapse 360      | ok stop PC2 abort-req 74 ind abort 4
+        req 640400      | ok start-req 640400 start PC1
+        start-cnf 3880  | ok stop PC1 ind 3880 start PC2
+        req 67e4200008101820 | ok stop PC2 data-req 63e00008101820 start PC1
+        data PER+       | ok stop PC1 ind PER+ start PC2
+        elapse 359      | ok
+        req 00          | ok stop PC2 end-req 00
+        req 640420      | refused 1
+        end-cnf         | ok'''
 CHANGES = (('6407b8', 'PER+', 7200), ('640000', '3880', 1), ('6000', '2a00', 300), ('6407b8', '20b0', 60))
 CASES.update({
     f'a change answered with {answer}': f"""

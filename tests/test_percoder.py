@@ -1,10 +1,10 @@
-"""Checks of percoder.py against page 01 and the vectors and weather of 002: examples, encodings worked out by hand, refusals."""
+"""Checks of percoder.py against page 01, the vectors and weather of 002 and L5 of 02: examples, encodings worked out by hand, refusals."""
 
 import random
 import sys
 
 from compare_coder import random_value
-from percoder import PRESENCE, Refused, read, write
+from percoder import PRESENCE, Refused, answer, read, write
 
 checks = failures = 0
 
@@ -57,7 +57,7 @@ same('P7', 'ground', ('modify-emergency', FIVE), bytes.fromhex('58 40'))
 same('P8', 'ground', ('demand-contract', {}), bytes.fromhex('30 00'))
 same('P9', 'ground', ('event-contract', {'waypoint-change': None}), bytes.fromhex('40 80'))
 same('P10', 'ground', ('periodic-contract', {'interval': ('minutes', 1)}), bytes.fromhex('64 04 00'))
-check('P11', refusal(read, 'ground', bytes.fromhex('64 04 20')), 11)
+check('P11', refusal(read, 'ground', bytes.fromhex('64 04 20')), ('periodic-contract', {'interval': FIVE}))       # 02, L5
 check('P12', refusal(read, 'air', b''), 7)
 check('P12', refusal(read, 'ground', b''), 7)
 same('P13', 'air', ('demand-report', {'report': report()}), bytes.fromhex('08' + '00' * 7 + '01 2c' + '00' * 4))
@@ -175,6 +175,38 @@ check('kinds by hand', len({(family, value[0]) for family, value, _ in HAND}), 9
 
 # An interval of 5 minutes is never sent, absent or named.
 check('no interval', refusal(write, 'ground', ('periodic-contract', {})), bits('0 110  0 00000000'))
+# One that is sent is read, and written back without (02, L5). Other intervals are written back as they are.
+SENT = [
+    ({}, '0 110  0 10000000  1 0000100', '0 110  0 00000000'),
+    ({'address': 1}, '0 110  0 11000000  1 0000100  00000000', '0 110  0 01000000  00000000'),
+    ({'weather': 255}, '0 110  0 10000100  1 0000100  11111110', '0 110  0 00000100  11111110'),
+    ({'projected-profile': 2, 'ground-vector': 3, 'air-vector': 4}, '0 110  0 10111000  1 0000100  00000001 00000010 00000011',
+     '0 110  0 00111000  00000001 00000010 00000011'),
+]
+for more, sent, written in SENT:
+    value = ('periodic-contract', {'interval': FIVE, **more})
+    check(f'5 minutes sent, {more}', refusal(read, 'ground', bits(sent)), value)
+    check(f'5 minutes sent, {more}, asked for', write('ground', value, with_default=True), bits(sent))
+    check(f'5 minutes sent, {more}, written', write('ground', value), bits(written))
+    check(f'5 minutes sent, {more}, written back', answer(f'ground {bits(sent).hex()}'.encode())[0], f'ok {bits(written).hex()}')
+    check(f'5 minutes not sent, {more}', answer(f'ground {bits(written).hex()}'.encode())[0], f'ok {bits(written).hex()}')
+    check(f'5 minutes sent, {more}, cut', refusal(read, 'ground', bits(sent)[:-1]), 7)
+    check(f'5 minutes sent, {more}, badly filled', refusal(read, 'ground', bits(sent + '1')), 13)
+    check(f'5 minutes sent, {more}, and more', refusal(read, 'ground', bits(sent) + b'\0'), 14)
+for text in ('1 0000011', '1 0000101', '1 0000000', '0 000100', '0 000101'):       # 4, 6 and 1 minutes, 5 and 6 seconds
+    octets = bits('0 110  0 10000000' + text)
+    check(f'interval {text}', answer(f'ground {octets.hex()}'.encode())[0], f'ok {octets.hex()}')
+check('modify to 5 minutes', answer(b'ground 5840')[0], 'ok 5840')
+check('5 minutes sent, a modulus of 256', refusal(read, 'ground', bits('0 110  0 11000000  1 0000100  11111111')), 8)
+check('5 minutes sent, an element not carried', refusal(read, 'ground', bits('0 110  0 10000010  1 0000100')), 10)
+
+
+def without_default(octets):
+    """Octets of a periodic contract that sends 5 minutes, bit by bit: its presence bit 0, the interval gone."""
+    text = ''.join(f'{octet:08b}' for octet in octets)
+    return bits(text[:5] + '0' + text[6:13] + text[21:]) if text[:6] == '011001' and text[13:21] == '10000100' else octets
+
+
 # Minus zero stays.
 minus = report()
 minus['position'] = dict(minus['position'], latitude={'sign': 1, 'degrees': 0, 'minutes': 0, 'tenths': 0})
@@ -283,6 +315,9 @@ for _ in range(1000):
     for family in ('air', 'ground'):
         value = random_value(rng, family)
         check('round trip', refusal(read, family, write(family, value)), value)
+        octets = write(family, value, with_default=True)
+        check('round trip, a default sent', refusal(read, family, octets), value)
+        check('written back', write(family, value), without_default(octets) if family == 'ground' else octets)
 
 if failures:
     print(f'percoder: {failures} of {checks} checks failed')

@@ -22,6 +22,7 @@ use Rattle.pdu_parts.specs.declared.acked.EventReport.{EventReport}
 use Rattle.pdu_parts.specs.declared.lists.Listed.{Listed}
 use Rattle.pdu.specs.declared.uplink.Ground.{Ground}
 use Rattle.pdu.specs.UplinkTable.{groundC}
+use Rattle.pdu.specs.Default.{writtenBack}
 use Rattle.pdu.specs.declared.downlink.Air.{Air}
 use Rattle.pdu.specs.declared.downlink.Air.the-variants as air
 use Rattle.pdu.specs.declared.downlink.AirPdu.{AirPdu}
@@ -118,5 +119,6 @@ air-round s a f e =
     let long : length (a .list .items) ≡ 128 = sym (ap (λ (x : AirPdu). length (x .list .items)) (k .1)) ∙ read-full (a .kind) (a .list) (k .0) in
     ap (encode airC) (pdu-back a (holds-own (a .kind) (a .list) (k .0) (k .1)) long (list-own (a .kind) (a .list) (k .1))) ∙ k .2
 
-pub ground-round : (s : List ℕ) (g : Ground) → ((i : ℕ) → getD s i 0 < 256) → readPdu groundC s ≡ got g → encode groundC (groundAt (flatGround g)) ≡ s
+-- or, where the default was sent, to the form without it
+pub ground-round : (s : List ℕ) (g : Ground) → ((i : ℕ) → getD s i 0 < 256) → readPdu groundC s ≡ got g → encode groundC (groundAt (flatGround g)) ≡ writtenBack s g
 ground-round s g f e = ap (encode groundC) (ground-back g) ∙ ground-read s g f e .2

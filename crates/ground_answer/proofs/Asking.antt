@@ -10,12 +10,12 @@ use lib.Dec.{leb, lit≤}
 use borrow.Author.Tests.{leb-true}
 use Rattle.per.specs.Codec.{first, unless}
 use Rattle.per.specs.laws.Codec.{first-0, first-1, unless-true}
-use Rattle.per.specs.Formats.{field, dep, via, only, absent, when, num, has, altCodec, choice}
+use Rattle.per.specs.Formats.{field, dep, via, recast, only, absent, when, num, has, altCodec, choice}
 use Rattle.per.specs.Pdu.{encode}
 use Rattle.pdu_parts.specs.declared.interval.Interval.{Interval}
 use Rattle.pdu_parts.specs.declared.interval.Interval.the-variants.{Seconds, Minutes}
 use Rattle.pdu_parts.specs.declared.periodic.Periodic.{Periodic}
-use Rattle.pdu_parts.specs.Interval.{intervalC, fiveMinutes, isFive, sentC, sentBits, Moduli, moduliC, periodicBits}
+use Rattle.pdu_parts.specs.Interval.{intervalC, intervalIf, isFive, sentBits, Moduli, moduliC, periodicBits}
 use Rattle.pdu_parts.specs.Periodic.{periodicC}
 use Rattle.pdu.proofs.uplink.Ground.{the-type}
 use Rattle.pdu.specs.declared.uplink.Ground.{Ground}
@@ -43,21 +43,21 @@ interval-within (Seconds n) h = let r = in-range 1 59 n h in (r .0, omega arith)
 interval-within (Minutes n) h = let r = in-range 1 120 n h in (omega arith, omega arith)
 
 -- an interval that is sent is in range, and one that is left out is 5 minutes
-sent-within : (there : Bool) (i : Interval) → when there fiveMinutes sentC .chk i ≡ 0 → when there fiveMinutes sentC .norm i ≡ i → Within (secondsOf i)
-unfolding when sentC only absent
-sent-within true i h e = interval-within i (first-0 (intervalC .chk i) _ h)
+sent-within : (there : Bool) (i : Interval) → intervalIf there .chk i ≡ 0 → intervalIf there .norm i ≡ i → Within (secondsOf i)
+unfolding intervalIf when absent
+sent-within true i h e = interval-within i h
 sent-within false i h e = subst (λ (x : Interval). Within (secondsOf x)) e (lit≤ tt, lit≤ tt)
 
 periodic-within : (a : Periodic) → periodicC .chk a ≡ 0 → Within (secondsOf (a .interval))
-unfolding periodicC via dep field only
+unfolding periodicC recast dep field only
 periodic-within a h =
     let v = sentBits (isFive (a .interval)) (a .elements) in
     let m : Moduli = (a .address, (a .profile, (a .ground, (a .air, a .weather)))) in
     let few = unless (leb (a .elements) 127) 5 in
-    let rest = first (when (has 128 v) fiveMinutes sentC .chk (a .interval)) (moduliC v .chk m) in
+    let rest = first (intervalIf (has 128 v) .chk (a .interval)) (moduliC v .chk m) in
     let all = first (periodicBits .chk v) rest in
     let e : a .elements ≤ 127 = leb-true (a .elements) 127 (unless-true (leb (a .elements) 127) 4 (first-0 few all h)) in
-    let sent = first-0 (when (has 128 v) fiveMinutes sentC .chk (a .interval)) (moduliC v .chk m) (first-1 (periodicBits .chk v) rest (first-1 few all h)) in
+    let sent = first-0 (intervalIf (has 128 v) .chk (a .interval)) (moduliC v .chk m) (first-1 (periodicBits .chk v) rest (first-1 few all h)) in
     sent-within (has 128 v) (a .interval) sent (ap (λ (x : Periodic). x .interval) (periodic-norm a e))
 
 -- what is sent has its fields in range

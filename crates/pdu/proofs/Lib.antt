@@ -4,5 +4,6 @@ pub mod DownlinkBounds
 pub mod DownlinkNorms
 pub mod Sending
 pub mod Rooms
+pub mod Default
 pub mod Promises
 pub mod Examples

@@ -16,16 +16,18 @@ use Rattle.pdu_parts.specs.declared.periodic.Periodic.{Periodic}
 use Rattle.pdu.specs.declared.uplink.Ground.{Ground}
 use Rattle.pdu.specs.declared.uplink.Ground.the-variants.{CancelContract, DemandContract, EventContract, ModifyEmergency, PeriodicContract}
 use Rattle.pdu.specs.declared.uplink.Ground as ground
-use Rattle.pdu.specs.UplinkTable.{groundC}
+use Rattle.pdu.specs.UplinkTable.{noPeriod, groundC}
 use Rattle.pdu.specs.declared.downlink.Air.the-variants.{CancelEmergency, Demand, Negative, Positive}
 use Rattle.pdu.specs.declared.downlink.Air as air
 use Rattle.pdu.specs.declared.downlink.AirPdu.{AirPdu}
 use Rattle.pdu.specs.DownlinkTable.{airC, bareAir}
-use Rattle.refusals.specs.Refusals.{DEFAULT-SENT, CUT-SHORT}
+use Rattle.refusals.specs.Refusals.{CUT-SHORT}
 
+-- octets from the air or from the ground, and what they read as; `upAs` with the octets that it is written as, where these are others
 pub data Example : Type 0 where
   down : List ℕ → Answer AirPdu → Example
   up : List ℕ → Answer Ground → Example
+  upAs : List ℕ → Answer Ground → List ℕ → Example
 
 abbrev pub zeroAngle : Angle
 zeroAngle = record { minus = false; degrees = 0; minutes = 0; tenths = 0 }
@@ -49,7 +51,7 @@ abbrev pub oneMinute : Periodic
 oneMinute = record { interval = Minutes 1; elements = 0; address = 0; profile = 0; ground = 0; air = 0; weather = 0 }
 
 -- P1 cancel-emergency; P2 ground abort 4; P3 air abort 4; P4 cancel-contract periodic; P5 positive ack periodic; P6 negative ack demand, reason 3;
--- P7 modify to 5 minutes; P8 empty demand contract; P9 waypoint event contract; P10 periodic, 1 minute; P11 refusal 11; P12 empty input: 7, in
+-- P7 modify to 5 minutes; P8 empty demand contract; P9 waypoint event contract; P10 periodic, 1 minute; P11 periodic, 5 minutes, written without them; P12 empty input: 7, in
 -- both families; P13 plain demand report
 abbrev pub examples : List Example
 examples =
@@ -63,7 +65,7 @@ examples =
     ∷ up (48 ∷ 0 ∷ []) (got (DemandContract 0))
     ∷ up (64 ∷ 128 ∷ []) (got (EventContract 128))
     ∷ up (100 ∷ 4 ∷ 0 ∷ []) (got (PeriodicContract oneMinute))
-    ∷ up (100 ∷ 4 ∷ 32 ∷ []) (refused DEFAULT-SENT)
+    ∷ upAs (100 ∷ 4 ∷ 32 ∷ []) (got (PeriodicContract noPeriod)) (96 ∷ 0 ∷ [])
     ∷ up [] (refused CUT-SHORT)
     ∷ down [] (refused CUT-SHORT)
     ∷ down (8 ∷ 0 ∷ 0 ∷ 0 ∷ 0 ∷ 0 ∷ 0 ∷ 0 ∷ 1 ∷ 44 ∷ 0 ∷ 0 ∷ 0 ∷ 0 ∷ []) (got (bareAir (Demand (record { ack = false; report = plainReport }))))
@@ -73,6 +75,7 @@ examples =
 unfoldable pub reread : Example → Example
 reread (down s a) = down s (readPdu airC s)
 reread (up s a) = up s (readPdu groundC s)
+reread (upAs s a o) = upAs s (readPdu groundC s) o
 
 -- the octets of a write that is accepted
 abbrev pub ifWritten : Written → List ℕ → List ℕ
@@ -88,6 +91,8 @@ rewritten (down s (got a)) = down (accepted (writePdu airC a (replicate (length 
 rewritten (down s (refused n)) = down s (refused n)
 rewritten (up s (got g)) = up (accepted (writePdu groundC g (replicate (length s) 255))) (got g)
 rewritten (up s (refused n)) = up s (refused n)
+rewritten (upAs s (got g) o) = upAs s (got g) (accepted (writePdu groundC g (replicate (length o) 255)))
+rewritten (upAs s (refused n) o) = upAs s (refused n) o
 
 unfoldable pub all : (Example → Example) → List Example → List Example
 all f [] = []

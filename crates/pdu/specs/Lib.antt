@@ -4,4 +4,5 @@ pub mod Contents
 pub mod DownlinkTable
 pub mod Answers
 pub mod Reasons
+pub mod Default
 pub mod Examples

@@ -1,15 +1,17 @@
 -- The message table of 01: intervals, and the parts of a periodic contract.
-use Prim.Native.Nat.{ℕ, _+_}
+use Prim.Native.Nat.{ℕ, _+_, _%_}
 use mathlib.Core.Path.{refl}
-use mathlib.Core.Bool.{Bool, true, false, not}
+use mathlib.Core.Bool.{Bool, true, false, _&&_}
 use mathlib.Core.List.{List, [], _∷_}
-use lib.Dec.{eqb}
+use lib.Dec.{eqb, leb}
+use Rattle.per.specs.Bits.{ofBit}
 use Rattle.per.specs.Codec.{Codec, unless}
-use Rattle.per.specs.Formats.{pair, only, when, num, mask, has, choice, Alt, Arm, arm, altOf}
+use Rattle.per.specs.Formats.{pair, dep, when, num, mask, has, choice, Alt, Arm, arm, altOf}
 use Rattle.pdu_parts.specs.declared.interval.Interval.{Interval}
 use Rattle.pdu_parts.specs.declared.interval.Interval.the-variants.{Seconds, Minutes}
-use Rattle.refusals.specs.Refusals.{DEFAULT-SENT}
-use Rattle.pdu_parts.specs.Elements.{ADDRESS, PROFILE, GROUND-VECTOR, AIR-VECTOR, WEATHER, INTERVAL, PERIODIC-BITS, PERIODIC-CARRIED}
+use Rattle.pdu_parts.specs.declared.periodic.Periodic.{Periodic}
+use Rattle.refusals.specs.Refusals.{OUT-OF-RANGE}
+use Rattle.pdu_parts.specs.Elements.{ADDRESS, PROFILE, GROUND-VECTOR, AIR-VECTOR, WEATHER, INTERVAL, REPORT-BITS, PERIODIC-BITS, PERIODIC-CARRIED}
 
 -- "Interval: 1 bit, then seconds 1..59 (0) or minutes 1..120 (1)"
 abbrev pub intervalTag : Interval → ℕ
@@ -40,9 +42,9 @@ abbrev pub isFive : Interval → Bool
 isFive (Seconds n) = false
 isFive (Minutes n) = eqb n 5
 
--- "An interval of 5 minutes is never sent, and is refused when sent"
-unfoldable pub sentC : Codec Interval
-sentC = only intervalC (λ i. unless (not (isFive i)) DEFAULT-SENT)
+-- the interval where its presence bit is set
+unfoldable pub intervalIf : Bool → Codec Interval
+intervalIf b = when b fiveMinutes intervalC
 
 -- "five moduli 1..255 in the report's order", each where its presence bit of weight w is set
 abbrev pub modulus : ℕ → ℕ → Codec ℕ
@@ -51,7 +53,7 @@ modulus w v = when (has w v) 0 (num 1 255)
 abbrev pub Moduli : Type 0
 Moduli = ℕ × (ℕ × (ℕ × (ℕ × ℕ)))
 
-abbrev pub moduliC : ℕ → Codec Moduli
+unfoldable pub moduliC : ℕ → Codec Moduli
 moduliC v = pair (modulus ADDRESS v) (pair (modulus PROFILE v) (pair (modulus GROUND-VECTOR v) (pair (modulus AIR-VECTOR v) (modulus WEATHER v))))
 
 -- "8 presence bits (interval, ..; five moduli ..; two not carried)"
@@ -59,9 +61,38 @@ abbrev pub periodicBits : Codec ℕ
 periodicBits = mask PERIODIC-BITS PERIODIC-CARRIED false
 
 abbrev pub periodicRest : ℕ → Codec (Interval × Moduli)
-periodicRest v = pair (when (has INTERVAL v) fiveMinutes sentC) (moduliC v)
+periodicRest v = pair (intervalIf (has INTERVAL v)) (moduliC v)
 
--- the presence bits that are sent: that of the interval is set unless it is the default
+-- the parts as they were sent
+abbrev pub Parts : Type 0
+Parts = ℕ × (Interval × Moduli)
+
+abbrev pub partsC : Codec Parts
+partsC = dep periodicBits periodicRest
+
+-- the presence bits that we send: that of the interval is set unless it is the default
 unfoldable pub sentBits : Bool → ℕ → ℕ
 sentBits true elements = elements
 sentBits false elements = 128 + elements
+
+-- the contract that parts mean, the parts that we send of it, and what refuses that
+abbrev pub ofParts : Parts → Periodic
+ofParts p = record {
+  interval = p .1 .0;
+  elements = p .0 % INTERVAL;
+  address = p .1 .1 .0;
+  profile = p .1 .1 .1 .0;
+  ground = p .1 .1 .1 .1 .0;
+  air = p .1 .1 .1 .1 .1 .0;
+  weather = p .1 .1 .1 .1 .1 .1;
+}
+
+abbrev pub toParts : Periodic → Parts
+toParts a = (sentBits (isFive (a .interval)) (a .elements), (a .interval, (a .address, (a .profile, (a .ground, (a .air, a .weather))))))
+
+abbrev pub elementsBad : Periodic → ℕ
+elementsBad a = unless (leb (a .elements) REPORT-BITS) OUT-OF-RANGE
+
+-- 1 where the default was sent
+abbrev pub defaultForm : Parts → ℕ
+defaultForm p = ofBit (has INTERVAL (p .0) && isFive (p .1 .0))

@@ -1,13 +1,10 @@
 // A reporting interval.
 use per::cursor::Cursor;
 use per::pen::Pen;
-use refusals::DEFAULT_SENT;
 ghost use mathlib.Core.Path.{_≡_};
-ghost use mathlib.Core.Bool.{true, false};
-ghost use Rattle.per.specs.Formats.{when};
 ghost use Rattle.per.specs.Reading.{Reads};
 ghost use Rattle.per.specs.Writing.{Writes};
-ghost use Rattle.pdu_parts.specs.Interval.{intervalC, isFive, fiveMinutes, sentC};
+ghost use Rattle.pdu_parts.specs.Interval.{intervalC, intervalIf, isFive};
 
 pub enum Interval {
     Seconds(u32),
@@ -65,36 +62,12 @@ pub(crate) fn is_five(i: Interval) -> bool
     }
 }
 
-// An interval that is sent: the default is refused with 11.
-fn read_sent(c: Cursor, s: &[u8]) -> IntervalRead
-    ensures { λ r. ⌜ Reads sentC (now (s .entry)) c (r .value) (r .next) ⌝ }
-{
-    let r = read_interval(c, s);
-    let n = r.next;
-    let v = r.value;
-    let five = is_five(v);
-    if n.refusal != 0 {
-        return r;
-    }
-    if five {
-        let next = Cursor {
-            at: c.at,
-            refusal: DEFAULT_SENT,
-        };
-        return IntervalRead {
-            value: Interval::Seconds(0),
-            next,
-        };
-    }
-    r
-}
-
 // The interval of a periodic contract: 5 minutes where none is sent.
-pub(crate) fn read_sent_if(c: Cursor, s: &[u8], present: bool) -> IntervalRead
-    ensures { λ r. ⌜ Reads (when present fiveMinutes sentC) (now (s .entry)) c (r .value) (r .next) ⌝ }
+pub(crate) fn read_interval_if(c: Cursor, s: &[u8], present: bool) -> IntervalRead
+    ensures { λ r. ⌜ Reads (intervalIf present) (now (s .entry)) c (r .value) (r .next) ⌝ }
 {
     if present {
-        return read_sent(c, s);
+        return read_interval(c, s);
     }
     IntervalRead {
         value: Interval::Minutes(5),
@@ -102,9 +75,8 @@ pub(crate) fn read_sent_if(c: Cursor, s: &[u8], present: bool) -> IntervalRead
     }
 }
 
-pub(crate) fn write_sent_if(p: Pen, out: &mut [u8; 128], present: bool, i: Interval) -> Pen
-    requires { ⌜ (present ≡ true → isFive i ≡ false) ⌝ }
-    ensures { λ r. ⌜ Writes (when present fiveMinutes sentC) (now (out .entry)) p i r (now (out .exit)) ⌝ }
+pub(crate) fn write_interval_if(p: Pen, out: &mut [u8; 128], present: bool, i: Interval) -> Pen
+    ensures { λ r. ⌜ Writes (intervalIf present) (now (out .entry)) p i r (now (out .exit)) ⌝ }
 {
     if present {
         return write_interval(p, out, i);

@@ -2,8 +2,8 @@
 use crate::elements::*;
 use crate::interval::Interval;
 use crate::interval::is_five;
-use crate::interval::read_sent_if;
-use crate::interval::write_sent_if;
+use crate::interval::read_interval_if;
+use crate::interval::write_interval_if;
 use per::cursor::Cursor;
 use per::cursor::present;
 use per::pen::Pen;
@@ -37,7 +37,7 @@ pub fn read_periodic(c: Cursor, s: &[u8]) -> PeriodicRead
 {
     let bits = c.mask(s, PERIODIC_BITS, PERIODIC_CARRIED, false);
     let v = bits.value;
-    let i = read_sent_if(bits.next, s, present(v, INTERVAL));
+    let i = read_interval_if(bits.next, s, present(v, INTERVAL));
     let address = i.next.num_if(s, present(v, ADDRESS), 1, 255);
     let profile = address.next.num_if(s, present(v, PROFILE), 1, 255);
     let ground = profile.next.num_if(s, present(v, GROUND_VECTOR), 1, 255);
@@ -75,7 +75,7 @@ pub fn write_periodic(p: Pen, out: &mut [u8; 128], a: Periodic) -> Pen
     }
     let v = bits_of(five, a.elements);
     let p = p.mask(out, v, PERIODIC_BITS, PERIODIC_CARRIED, false);
-    let p = write_sent_if(p, out, present(v, INTERVAL), interval);
+    let p = write_interval_if(p, out, present(v, INTERVAL), interval);
     let p = p.num_if(out, present(v, ADDRESS), a.address, 1, 255);
     let p = p.num_if(out, present(v, PROFILE), a.profile, 1, 255);
     let p = p.num_if(out, present(v, GROUND_VECTOR), a.ground, 1, 255);

@@ -13,7 +13,8 @@ use Rattle.per.specs.Codec.{Codec, Out, out, place, refuse}
 use Rattle.per.specs.laws.Codec.{unless-true}
 use Rattle.per.specs.Bits.{numAt}
 use Rattle.per.specs.Field.{Field, settle}
-use Rattle.per.specs.Formats.{field, numField, num, countField, count, vec, dep, via, only, absent, when, ext, extension, pair, Alt, altCodec, choice, choice-left, index}
+use Rattle.per.specs.Shapes.{Other}
+use Rattle.per.specs.Formats.{field, numField, num, countField, count, vec, dep, via, recast, only, absent, when, ext, extension, pair, Alt, altCodec, choice, choice-left, index}
 use Rattle.per.specs.Pdu.{window}
 use Rattle.per.specs.Reading.{Reads}
 use Rattle.per.specs.ReadingInner.{settled}
@@ -30,6 +31,13 @@ pub like : {A B : Type 0} {c : Codec A} (to : A → B) (from : B → A) (ok : B 
     {s : List ℕ} {j n : Cursor} {a : A} → Reads c s j a n → Reads (via c to from ok left) s j (to a) n
 unfolding via
 like to from ok left p = record { value-is = ap to (p .value-is); next-is = p .next-is }
+
+pub recast-like : {A B : Type 0} {c : Codec A} (to : A → B) (from : B → A) (ok : B → ℕ) (grade : A → ℕ)
+    (left : (a : A) → c .chk a ≡ 0 → c .norm a ≡ a → grade a ≡ 0 → (ok (to a) ≡ 0) × (from (to a) ≡ a))
+    (other : (a : A) → c .chk a ≡ 0 → c .norm a ≡ a → grade a ≡ 1 → Other c to from ok a)
+    {s : List ℕ} {j n : Cursor} {a : A} → Reads c s j a n → Reads (recast c to from ok grade left other) s j (to a) n
+unfolding recast
+recast-like to from ok grade left other p = record { value-is = ap to (p .value-is); next-is = p .next-is }
 
 -- one, and then what its value picks
 pub by : {A B : Type 0} {c : Codec A} (k : A → Codec B) {s : List ℕ} {j n m : Cursor} {a : A} {b : B}

@@ -12,7 +12,8 @@ use Rattle.per.specs.Bits.{toBits}
 use Rattle.per.specs.laws.Bits.{length-toBits}
 use Rattle.per.specs.Codec.{Codec, first, upto}
 use Rattle.per.specs.Field.{Field}
-use Rattle.per.specs.Formats.{field, vec, dep, via, only, absent, when, ext, extension, Alt, altCodec, choice, choice-left, index}
+use Rattle.per.specs.Shapes.{Other}
+use Rattle.per.specs.Formats.{field, vec, dep, via, recast, only, absent, when, ext, extension, Alt, altCodec, choice, choice-left, index}
 use Rattle.per.specs.Writing.{putBits, onward, barred, Ink, ink, Writes}
 use Rattle.per.specs.WritingInner.{Inked}
 use Rattle.per.proofs.Puts.{put-past, put-append}
@@ -164,15 +165,21 @@ pub inks-like : {A B : Type 0} {c : Codec A} (to : A → B) (from : B → A) (ok
 unfolding via ink
 inks-like to from ok left e x = record { pen-is = rw e (x .pen-is); octets-is = rw e (x .octets-is) }
 
-pub like-barred : {A B : Type 0} (c : Codec A) (to : A → B) (from : B → A) (ok : B → ℕ)
-    (left : (a : A) → c .chk a ≡ 0 → c .norm a ≡ a → (ok (to a) ≡ 0) × (from (to a) ≡ a))
-    {s : List ℕ} {p q : Pen} {b : B} (k : ℕ) → ok b ≡ suc k → q ≡ barred p (suc k) → Writes (via c to from ok left) s p b q s
-unfolding via barred
-like-barred c to from ok left {s} {p} {q} {b} k e h = go (eqb (p .refusal) 0) refl h
+pub inks-recast : {A B : Type 0} {c : Codec A} (to : A → B) (from : B → A) (ok : B → ℕ) (grade : A → ℕ)
+    (left : (a : A) → c .chk a ≡ 0 → c .norm a ≡ a → grade a ≡ 0 → (ok (to a) ≡ 0) × (from (to a) ≡ a))
+    (other : (a : A) → c .chk a ≡ 0 → c .norm a ≡ a → grade a ≡ 1 → Other c to from ok a)
+    {s t : List ℕ} {p q : Pen} {b : B} → ok b ≡ 0 → Writes c s p (from b) q t → Writes (recast c to from ok grade left other) s p b q t
+unfolding recast ink
+inks-recast to from ok grade left other e x = record { pen-is = rw e (x .pen-is); octets-is = rw e (x .octets-is) }
+
+-- a value that is refused before its first bit bars the pen
+pub inks-refused : {A : Type 0} (c : Codec A) {s : List ℕ} {p q : Pen} {a : A} (k : ℕ) → c .chk a ≡ k → c .enc a ≡ [] → q ≡ barred p k → Writes c s p a q s
+unfolding barred
+inks-refused c {s} {p} {q} {a} k e b h = go (eqb (p .refusal) 0) refl h
   where
-    go : (t : Bool) → eqb (p .refusal) 0 ≡ t → q ≡ cond t (record { at = p .at; refusal = suc k }) p → Writes (via c to from ok left) s p b q s
-    go true t g = rw g (inks-barred (via c to from ok left) s p b (suc k) (eqb-true (p .refusal) 0 t) (rw e) (rw e))
-    go false t g = rw g (inks-kept (via c to from ok left) s p b (eqb-false (p .refusal) 0 t))
+    go : (t : Bool) → eqb (p .refusal) 0 ≡ t → q ≡ cond t (record { at = p .at; refusal = k }) p → Writes c s p a q s
+    go true t g = rw g (inks-barred c s p a k (eqb-true (p .refusal) 0 t) e b)
+    go false t g = rw g (inks-kept c s p a (eqb-false (p .refusal) 0 t))
 
 -- an optional part
 pub inks-there : {A : Type 0} (c : Codec A) (z : A) (b : Bool) {s t : List ℕ} {p q : Pen} {a : A} → b ≡ true → Writes c s p a q t → Writes (when b z c) s p a q t

@@ -12,7 +12,8 @@ use Rattle.per.specs.Bits.{toBits, width}
 use Rattle.per.specs.laws.Bits.{length-toBits}
 use Rattle.per.specs.Codec.{Codec, unless, upto}
 use Rattle.per.specs.Field.{Field}
-use Rattle.per.specs.Formats.{field, extensionField, ext, dep, via, only, absent, when, Alt, altCodec, neverCodec, numField, choice, vec, list16}
+use Rattle.per.specs.Shapes.{Other}
+use Rattle.per.specs.Formats.{field, extensionField, ext, dep, via, recast, only, absent, when, Alt, altCodec, neverCodec, numField, choice, vec, list16}
 
 -- no value has more than n bits
 pub record Most {A : Type 0} (n : ℕ) (c : Codec A) : Type 0 where
@@ -41,6 +42,13 @@ pub a-like : {A B : Type 0} {c : Codec A} (to : A → B) (from : B → A) (ok : 
     (left : (a : A) → c .chk a ≡ 0 → c .norm a ≡ a → (ok (to a) ≡ 0) × (from (to a) ≡ a)) {n : ℕ} → Most n c → Most n (via c to from ok left)
 unfolding via
 a-like {c = c} to from ok left {n} x = record { bits = λ b. upto-most (ok b) n (c .enc (from b)) (x .bits (from b)) }
+
+pub a-recast : {A B : Type 0} {c : Codec A} (to : A → B) (from : B → A) (ok : B → ℕ) (grade : A → ℕ)
+    (left : (a : A) → c .chk a ≡ 0 → c .norm a ≡ a → grade a ≡ 0 → (ok (to a) ≡ 0) × (from (to a) ≡ a))
+    (other : (a : A) → c .chk a ≡ 0 → c .norm a ≡ a → grade a ≡ 1 → Other c to from ok a)
+    {n : ℕ} → Most n c → Most n (recast c to from ok grade left other)
+unfolding recast
+a-recast {c = c} to from ok grade left other {n} x = record { bits = λ b. upto-most (ok b) n (c .enc (from b)) (x .bits (from b)) }
 
 -- an extension bit first
 pub a-mark : {A : Type 0} {c : Codec A} {m n : ℕ} → suc m ≤ n → Most m c → Most n (ext c)

@@ -52,7 +52,7 @@ answer-got zero v a e = (refl, cc)
 answer-got (suc n) v a e = let z : _≡_ {A = ℕ} 0 1 = cc in absurd (omega arith)
 
 -- with the ending in order, what is left are the zeros
-tail-zeros : (bs : List Bool) (n : ℕ) → ending bs n ≡ 0 → drop n bs ≡ replicate (fill n) false
+pub tail-zeros : (bs : List Bool) (n : ℕ) → ending bs n ≡ 0 → drop n bs ≡ replicate (fill n) false
 tail-zeros bs n g =
     let f : ℕ = unless (eqb (numAt bs n (fill n)) 0) 13 in
     let o : ℕ = unless (eqb (n + fill n) (length bs)) 14 in
@@ -99,7 +99,7 @@ module _ {A : Type 0} (c : Codec A) where
       rw (start-good (encode c a) l, window-all (encode c a) l, bits-encode a, t, zero-add n, eq-eqb (numAt (filled e) n (fill n)) 0 z, eq-eqb (n + fill n) (length (filled e)) q)
 
   -- what stands behind a good reading
-  got-run : (s : List ℕ) (a : A) → readPdu c s ≡ got a
+  pub got-run : (s : List ℕ) (a : A) → readPdu c s ≡ got a
       → (length s ≤ 128) × (c .run (bitsOf s) (place 0) .next .refusal ≡ 0) × (ending (bitsOf s) (c .run (bitsOf s) (place 0) .next .at) ≡ 0) × (c .run (bitsOf s) (place 0) .value ≡ a)
   unfolding readPdu finish
   got-run s a h =
@@ -112,7 +112,7 @@ module _ {A : Type 0} (c : Codec A) where
       (g, first-1 (r .next .refusal) (ending (window s) (r .next .at)) (i .0), i .1)) in
       (l, k .0, k .1, k .2)
 
-  form-is : (s : List ℕ) → length s ≤ 128 → formPdu c s ≡ c .form (bitsOf s) (place 0)
+  pub form-is : (s : List ℕ) → length s ≤ 128 → formPdu c s ≡ c .form (bitsOf s) (place 0)
   unfolding formPdu
   form-is s l = ap (λ (j : Cursor). c .form (window s) j) (start-good s l) ∙ ap (λ (b : List Bool). c .form b (place 0)) (window-all s l)
 

@@ -1,5 +1,5 @@
 -- Which forms a codec reads: a law for each combinator, all found by `search forms`. Assumes nothing.
-use Prim.Native.Nat.{ℕ, zero, suc, _*_}
+use Prim.Native.Nat.{ℕ, zero, suc, _*_, _≤_}
 use mathlib.Core.Path.{_≡_}
 use mathlib.Core.Bool.{Bool, true, false, cond}
 use mathlib.Core.List.{List, [], _∷_}
@@ -7,7 +7,8 @@ use lib.Dec.{eqb}
 use native.Mathlib.Omega.{arith}
 use Rattle.per.specs.Codec.{Codec, Within}
 use Rattle.per.specs.Field.{Field}
-use Rattle.per.specs.Formats.{field, dep, via, only, absent, when, Alt, altCodec, neverCodec, Arm, armCodec, choice, vec, list16}
+use Rattle.per.specs.Shapes.{Other}
+use Rattle.per.specs.Formats.{field, dep, via, recast, only, absent, when, Alt, altCodec, neverCodec, Arm, armCodec, choice, vec, list16}
 
 pub in-field : {A : Type 0} (n : ℕ) (f : Field A) → Within n (field f)
 unfolding field
@@ -25,6 +26,13 @@ pub in-via : {A B : Type 0} (n : ℕ) (c : Codec A) (to : A → B) (from : B →
     (left : (a : A) → c .chk a ≡ 0 → c .norm a ≡ a → (ok (to a) ≡ 0) × (from (to a) ≡ a)) → Within n c → Within n (via c to from ok left)
 unfolding via
 in-via n c to from ok left p = record { most = p .most }
+
+pub in-recast : {A B : Type 0} (n : ℕ) (c : Codec A) (to : A → B) (from : B → A) (ok : B → ℕ) (grade : A → ℕ)
+    (left : (a : A) → c .chk a ≡ 0 → c .norm a ≡ a → grade a ≡ 0 → (ok (to a) ≡ 0) × (from (to a) ≡ a))
+    (other : (a : A) → c .chk a ≡ 0 → c .norm a ≡ a → grade a ≡ 1 → Other c to from ok a)
+    → Within n c → ((a : A) → grade a ≤ n) → Within n (recast c to from ok grade left other)
+unfolding recast
+in-recast n c to from ok grade left other p q = record { most = λ bs j. omega (arith, p .most bs j, q (c .run bs j .value)) }
 
 pub in-when : {A : Type 0} (n : ℕ) (b : Bool) (z : A) (c : Codec A) → Within n c → Within n (when b z c)
 unfolding when

@@ -17,9 +17,10 @@ use Rattle.per.specs.Codec.{Codec, out, first, unless}
 use Rattle.per.specs.laws.Codec.{first-0, first-1, unless-true}
 use Rattle.per.specs.Field.{Field, readField, fieldBits, raised, raisedChk}
 use Rattle.per.specs.laws.Field.{field-stuck, field-there, field-room, field-kept, field-back}
-use Rattle.per.specs.Shapes.{depRun, depChk, depEnc, depNorm, depForm, viaRun, viaChk, viaEnc, onlyRun, onlyChk, onlyEnc}
+use Rattle.per.specs.Shapes.{depRun, depChk, depEnc, depNorm, depForm, viaRun, viaChk, viaEnc, Other, recastForm, onlyRun, onlyChk, onlyEnc}
 use Rattle.per.specs.laws.Dep.{dep-stuck, dep-there, dep-room, dep-kept, dep-back}
 use Rattle.per.specs.laws.Via.{via-stuck, via-there, via-kept, via-back, absent-moved, absent-there}
+use Rattle.per.specs.laws.Recast.{recast-kept, recast-back}
 use Rattle.per.specs.laws.Only.{only-stuck, only-there, only-room, only-kept, only-back}
 use Rattle.per.specs.laws.Kinds.{num-write, num-read, run-write, run-read, flag-read, flag-write, zero-bit, count-write, raised-write, raised-read}
 use Rattle.refusals.specs.Refusals.{ABOVE-RANGE, EXTENSION-SET, LIST-OVER, NO-ELEMENT, NOT-CARRIED, OUT-OF-RANGE}
@@ -72,8 +73,8 @@ via c to from ok left = record {
   enc = viaEnc c to from ok;
   norm = λ b. to (c .norm (from b));
   form = c .form;
-  stuck = via-stuck c to from ok left;
-  there = via-there c to from ok left;
+  stuck = via-stuck c to from ok;
+  there = via-there c to from ok;
   room = c .room;
   kept = via-kept c to from ok left;
   back = via-back c to from ok left;
@@ -82,6 +83,25 @@ via c to from ok left = record {
 -- another value for the same bits, with nothing more to judge
 abbrev pub iso : {A B : Type 0} (c : Codec A) (to : A → B) (from : B → A) → ((a : A) → from (to a) ≡ a) → Codec B
 iso c to from left = via c to from (λ b. 0) (λ a g s. (refl, left a))
+
+-- a value with more forms than one: c reads the parts as they were sent, `to` is their value, and `from` its parts in the writer's own form.
+-- `grade` is the form of the parts: 0 the writer's own, 1 another, 2 of a value that may not be written
+unfoldable pub recast : {A B : Type 0} (c : Codec A) (to : A → B) (from : B → A) (ok : B → ℕ) (grade : A → ℕ)
+    → ((a : A) → c .chk a ≡ 0 → c .norm a ≡ a → grade a ≡ 0 → (ok (to a) ≡ 0) × (from (to a) ≡ a))
+    → ((a : A) → c .chk a ≡ 0 → c .norm a ≡ a → grade a ≡ 1 → Other c to from ok a) → Codec B
+recast c to from ok grade left other = record {
+  none = to (c .none);
+  run = viaRun c to from ok;
+  chk = viaChk c to from ok;
+  enc = viaEnc c to from ok;
+  norm = λ b. to (c .norm (from b));
+  form = recastForm c grade;
+  stuck = via-stuck c to from ok;
+  there = via-there c to from ok;
+  room = c .room;
+  kept = recast-kept c to from ok grade left other;
+  back = recast-back c to from ok grade left other;
+}
 
 -- a further judgement, alike on reading and on writing
 unfoldable pub only : {A : Type 0} → Codec A → (A → ℕ) → Codec A

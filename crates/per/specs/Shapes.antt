@@ -1,8 +1,10 @@
 -- How codecs are put together: what each way of it reads and writes. Its laws are in laws/, the codecs themselves in Formats.antt.
-use Prim.Native.Nat.{ℕ, max}
+use Prim.Native.Nat.{ℕ, _≤_, max}
+use mathlib.Core.Path.{_≡_}
 use mathlib.Core.Bool.{Bool, cond}
 use mathlib.Core.List.{List, _++_}
 use lib.Dec.{eqb}
+use lib.ListN.{length}
 use Rattle.per.specs.declared.cursor.Cursor.{Cursor}
 use Rattle.per.specs.Codec.{Codec, Out, out, first, upto}
 use Rattle.per.specs.Field.{settle}
@@ -37,6 +39,17 @@ module _ {A B : Type 0} (c : Codec A) (to : A → B) (from : B → A) (ok : B �
 
   abbrev pub viaEnc : B → List Bool
   viaEnc b = upto (ok b) (c .enc (from b))
+
+  -- parts a that are not in the writer's own form: their value may be written, reads as itself, and takes no more bits than they did
+  pub record Other (a : A) : Type 0 where
+    pub good : viaChk (to a) ≡ 0
+    pub same : to (c .norm (from (to a))) ≡ to a
+    pub short : length (c .enc (from (to a))) ≤ length (c .enc a)
+
+-- the form of what stands at a place, where `grade` is that of the parts that were read there
+module _ {A : Type 0} (c : Codec A) (grade : A → ℕ) where
+  abbrev pub recastForm : List Bool → Cursor → ℕ
+  recastForm bs j = max (c .form bs j) (grade (c .run bs j .value))
 
 -- a further judgement on what was read, and on what is to be written
 module _ {A : Type 0} (c : Codec A) (bad : A → ℕ) where

@@ -4,4 +4,5 @@ pub mod Field
 pub mod Kinds
 pub mod Dep
 pub mod Via
+pub mod Recast
 pub mod Only

@@ -43,7 +43,7 @@ module _ {list : List ℕ} where
       go zero p = b
       go (suc k) p = p
 
-  on-unless : (b : Bool) (n : ℕ) → On list n → On list (unless b n)
+  pub on-unless : (b : Bool) (n : ℕ) → On list n → On list (unless b n)
   on-unless true n a = on-none
   on-unless false n a = a
 

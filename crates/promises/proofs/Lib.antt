@@ -1,5 +1,6 @@
 pub mod Fields
 pub mod Numbers
+pub mod Readings
 pub mod Messages
 pub mod Calls
 pub mod Clock

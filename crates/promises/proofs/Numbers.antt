@@ -1,21 +1,19 @@
 -- Every refusal of a call is on the page. Assumes nothing.
-use mathlib.Core.Path.{_≡_, refl}
+use mathlib.Core.Path.{_≡_}
 use mathlib.Core.Bool.{Bool, true, false, not}
 use mathlib.Core.List.{List}
-use Prim.Native.Nat.{ℕ, zero, suc, _≤_}
+use Prim.Native.Nat.{ℕ, zero, suc}
 use lib.Dec.{T, eqb, leb}
-use borrow.Author.Tests.{leb-true}
 use Rattle.per.specs.Codec.{first, unless}
-use Rattle.per.specs.Formats.{field, dep, via, only, absent, when, has, altCodec, choice}
+use Rattle.per.specs.Formats.{field, dep, via, recast, only, absent, when, has, altCodec, choice}
 use Rattle.per.specs.Pdu as per
 use Rattle.per.specs.Pdu.{encode, readPdu, got, refused}
 use Rattle.pdu_parts.specs.declared.interval.Interval.{Interval}
 use Rattle.pdu_parts.specs.declared.interval.Interval.the-variants.{Seconds, Minutes}
 use Rattle.pdu_parts.specs.declared.periodic.Periodic.{Periodic}
 use Rattle.pdu_parts.specs.Elements.{PERIODIC-BITS, PERIODIC-CARRIED, REPORT-BITS, DEMAND-CARRIED, EVENT-BITS, EVENT-CARRIED}
-use Rattle.pdu_parts.specs.Interval.{intervalC, isFive, sentC, sentBits, moduliC, periodicBits, periodicRest, fiveMinutes}
+use Rattle.pdu_parts.specs.Interval.{intervalC, intervalIf, isFive, sentBits, moduliC, partsC, toParts}
 use Rattle.pdu_parts.specs.Periodic.{periodicC}
-use Rattle.pdu_parts.proofs.Intervals.{interval-norm, sent-not-five}
 use Rattle.pdu.specs.declared.uplink.Ground.{Ground}
 use Rattle.pdu.specs.declared.uplink.Ground.the-variants.{CancelAll, CancelContract, CancelEmergencyAck, DemandContract, EventContract, ModifyEmergency, PeriodicContract, Abort}
 use Rattle.pdu.specs.declared.downlink.AirPdu.{AirPdu}
@@ -57,34 +55,26 @@ on-interval (Seconds n) = a-number 1 59 five .each n
 on-interval (Minutes n) = a-number 1 120 five .each n
 
 moduli : (v : ℕ) → Held numbers (moduliC v)
+unfolding moduliC
 moduli v = search (fields, five) depth 12
 
--- an interval that is sent is not the default, so 11 is no refusal of a write
-on-sent : (i : Interval) (v e : ℕ) → v ≡ sentBits (isFive i) e → e ≤ 127 → On numbers (when (has 128 v) fiveMinutes sentC .chk i)
-unfolding when absent sentC only
-on-sent i v e q l = go (has 128 v) refl
-  where
-    go : (b : Bool) → has 128 v ≡ b → On numbers (when b fiveMinutes sentC .chk i)
-    go false h = on tt
-    go true h =
-        let sent : isFive i ≡ false = sent-not-five i (isFive i) (has 128 v) v e refl q refl l h in
-        on-first (on-interval i) (rw (interval-norm i, sent) (on tt))
+on-sent : (there : Bool) (i : Interval) → On numbers (intervalIf there .chk i)
+unfolding intervalIf when absent
+on-sent true i = on-interval i
+on-sent false i = on tt
 
 on-periodic : (a : Periodic) → On numbers (periodicC .chk a)
-unfolding periodicC via dep only field
-on-periodic a = go (leb (a .elements) 127) refl
+unfolding periodicC recast dep only field
+on-periodic a = go (leb (a .elements) 127)
   where
     v : ℕ
     v = sentBits (isFive (a .interval)) (a .elements)
 
-    rest : ℕ
-    rest = dep periodicBits periodicRest .chk (v, (a .interval, (a .address, (a .profile, (a .ground, (a .air, a .weather))))))
-
-    go : (b : Bool) → leb (a .elements) 127 ≡ b → On numbers (first (unless b 5) rest)
-    go false h = on tt
-    go true h =
+    go : (b : Bool) → On numbers (first (unless b 5) (partsC .chk (toParts a)))
+    go false = on tt
+    go true =
         on-first (a-mask PERIODIC-BITS PERIODIC-CARRIED five ten .each v)
-        (on-first (on-sent (a .interval) v (a .elements) refl (leb-true (a .elements) 127 h)) (moduli v .each (a .address, (a .profile, (a .ground, (a .air, a .weather))))))
+        (on-first (on-sent (has 128 v) (a .interval)) (moduli v .each (a .address, (a .profile, (a .ground, (a .air, a .weather))))))
 
 on-ground : (g : Ground) → On numbers (groundC .chk g)
 unfolding groundC groundAlt choice altCodec via dep field absent

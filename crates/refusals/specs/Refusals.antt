@@ -41,9 +41,7 @@ EXTENSION-SET = 9
 abbrev pub NOT-CARRIED : ℕ
 NOT-CARRIED = 10
 
--- default interval sent
-abbrev pub DEFAULT-SENT : ℕ
-DEFAULT-SENT = 11
+-- 11, a default interval sent, is retired, and its number is not used again (L5)
 
 -- list over 16
 abbrev pub LIST-OVER : ℕ

@@ -29,8 +29,7 @@ pub const EXTENSION_SET: u8 = 9;
 // presence bit of an element not carried
 pub const NOT_CARRIED: u8 = 10;
 
-// default interval sent
-pub const DEFAULT_SENT: u8 = 11;
+// 11, a default interval sent, is retired, and its number is not used again (L5)
 
 // list over 16
 pub const LIST_OVER: u8 = 12;

@@ -66,3 +66,11 @@ module _ {A : Type 0} (f : Field A) where
         moved = rw (r .0, length-toBits);
         bits = rw (r .0, r .1, length-toBits) (num-back (f .width) bs (j .at) (i .1));
       })
+
+  -- the bits that a reading passed
+  pub field-passed : (bs : List Bool) (j : Cursor) → readField f bs j .next .refusal ≡ 0
+      → (readField f bs j .next .at ≡ j .at + f .width) × (drop (j .at) bs ≡ toBits (f .width) (f .from (readField f bs j .value)) ++ drop (j .at + f .width) bs)
+  field-passed bs j h =
+      let i = field-ok bs j h in
+      let r = f .read (numAt bs (j .at) (f .width)) (numAt-lt bs (j .at) (f .width)) (i .2) in
+      rw (readGood bs j (i .0) (i .1) (i .2)) (refl, rw (r .1) (num-back (f .width) bs (j .at) (i .1)))

@@ -11,8 +11,7 @@ use Rattle.per.specs.Codec.{Codec, out, place, Kept, Own}
 use Rattle.per.specs.laws.Codec.{first-0, first-1}
 use Rattle.per.specs.Shapes.{viaRun, viaChk, viaEnc}
 
-module _ {A B : Type 0} (c : Codec A) (to : A → B) (from : B → A) (ok : B → ℕ)
-    (left : (a : A) → c .chk a ≡ 0 → c .norm a ≡ a → (ok (to a) ≡ 0) × (from (to a) ≡ a)) where
+module _ {A B : Type 0} (c : Codec A) (to : A → B) (from : B → A) (ok : B → ℕ) where
   pub via-stuck : (bs : List Bool) (j : Cursor) → (j .refusal ≡ 0 → ⊥) → viaRun c to from ok bs j ≡ out (to (c .none)) j
   via-stuck bs j h = rw (c .stuck bs j h)
 
@@ -24,6 +23,8 @@ module _ {A B : Type 0} (c : Codec A) (to : A → B) (from : B → A) (ok : B �
       let e0 : drop (j .at) bs ≡ c .enc (from b) ++ rest = rw h0 at e in
       rw (h0, c .there (from b) bs rest j (first-1 (ok b) (c .chk (from b)) h) z e0)
 
+module _ {A B : Type 0} (c : Codec A) (to : A → B) (from : B → A) (ok : B → ℕ)
+    (left : (a : A) → c .chk a ≡ 0 → c .norm a ≡ a → (ok (to a) ≡ 0) × (from (to a) ≡ a)) where
   pub via-kept : (bs : List Bool) (j : Cursor) → viaRun c to from ok bs j .next .refusal ≡ 0 → c .form bs j ≤ 1
       → Kept (viaChk c to from ok) (viaEnc c to from ok) (λ b. to (c .norm (from b))) (j .at) (viaRun c to from ok bs j)
   via-kept bs j h f =

@@ -1,4 +1,5 @@
-use Rattle.per.proofs.Compose.{then, by, like}
+use Rattle.per.proofs.Compose.{then, by, recast-like}
+use Rattle.pdu_parts.specs.Interval.{moduliC}
 use Rattle.pdu_parts.specs.Periodic.{periodicC}
 use borrow.Author.Needs.{needs}
 use Rattle.pdu_parts.proofs.periodic.read_periodic.Statement.{statement}
@@ -10,8 +11,8 @@ mask-requires c κs = search needs
 present-requires : tie.Need-present-requires
 present-requires c κs = search needs
 
-read-sent-if-requires : tie.Need-read-sent-if-requires
-read-sent-if-requires c κs = search needs
+read-interval-if-requires : tie.Need-read-interval-if-requires
+read-interval-if-requires c κs = search needs
 
 present-requires-2 : tie.Need-present-requires-2
 present-requires-2 c κs = search needs
@@ -44,9 +45,9 @@ num-if-requires-5 : tie.Need-num-if-requires-5
 num-if-requires-5 c κs = search needs
 
 returns : tie.Need-returns
-unfolding periodicC
+unfolding periodicC moduliC
 returns c =
-    like _ _ _ _ (by _ (c .before .before .before .before .before .before .before .before .before .before .before .before .before .mask .ensures) (then (rw (c .before .before .before .before .before .before .before .before .before .before .before .before .present .ensures) at (c .before .before .before .before .before .before .before .before .before .before .before .read-sent-if .ensures))
+    recast-like _ _ _ _ _ _ (by _ (c .before .before .before .before .before .before .before .before .before .before .before .before .before .mask .ensures) (then (rw (c .before .before .before .before .before .before .before .before .before .before .before .before .present .ensures) at (c .before .before .before .before .before .before .before .before .before .before .before .read-interval-if .ensures))
     (then (rw (c .before .before .before .before .before .before .before .before .before .before .present2 .ensures) at (c .before .before .before .before .before .before .before .before .before .num-if .ensures)) (then (rw (c .before .before .before .before .before .before .before .before .present3 .ensures) at (c .before .before .before .before .before .before .before .num-if2 .ensures))
     (then (rw (c .before .before .before .before .before .before .present4 .ensures) at (c .before .before .before .before .before .num-if3 .ensures)) (then (rw (c .before .before .before .before .present5 .ensures) at (c .before .before .before .num-if4 .ensures))
     (rw (c .before .before .present6 .ensures) at (c .before .num-if5 .ensures))))))))
@@ -57,7 +58,7 @@ read-periodic-spec =
     (tie.spec
     mask-requires
     present-requires
-    read-sent-if-requires
+    read-interval-if-requires
     present-requires-2
     num-if-requires
     present-requires-3

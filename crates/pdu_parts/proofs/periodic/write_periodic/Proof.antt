@@ -1,11 +1,10 @@
 use mathlib.Core.Path.{_≡_, ap, _∙_}
 use mathlib.Core.Bool.{Bool}
-use Rattle.per.specs.Formats.{field, only, dep}
+use Rattle.per.specs.Formats.{field, only, recast}
 use Rattle.per.specs.laws.Codec.{unless-le, unless-gt}
-use Rattle.per.proofs.Inks.{inks-by, inks-like, like-barred}
-use Rattle.pdu_parts.specs.Interval.{isFive, sentBits, periodicBits, periodicRest}
+use Rattle.per.proofs.Inks.{inks-by, inks-recast, inks-refused}
+use Rattle.pdu_parts.specs.Interval.{isFive, sentBits, moduliC}
 use Rattle.pdu_parts.specs.Periodic.{periodicC}
-use Rattle.pdu_parts.proofs.Intervals.{sent-not-five}
 use borrow.Author.Needs.{needs}
 use Rattle.pdu_parts.proofs.periodic.write_periodic.Statement.{statement}
 use Rattle.pdu_parts.proofs.periodic.write_periodic.Tie as tie
@@ -17,8 +16,10 @@ refuse-requires : tie.Need-refuse-requires
 refuse-requires c κs = search needs
 
 returns : tie.Need-returns
-unfolding periodicC
-returns c = like-barred (dep periodicBits periodicRest) _ _ _ _ 4 (unless-gt _ _ 5 (c .before .if1 .taken)) (c .refuse .ensures)
+unfolding periodicC recast
+returns c =
+    let e = unless-gt _ _ 5 (c .before .if1 .taken) in
+    inks-refused periodicC 5 (rw e) (rw e) (c .refuse .ensures)
 
 bits-of-requires : tie.Need-bits-of-requires
 bits-of-requires c κs = search needs
@@ -29,8 +30,8 @@ mask-requires c κs = search needs
 present-requires : tie.Need-present-requires
 present-requires c κs = search needs
 
-write-sent-if-requires : tie.Need-write-sent-if-requires
-write-sent-if-requires c κs = sent-not-five (c .before .before .before .before .before .before .before .before .args .a .interval) _ _ _ _ (c .present .ensures) (c .before .before .before .before .bits-of .ensures) (c .before .before .before .before .before .before .before .is-five .ensures) (c .before .before .before .before .before .if1 .left)
+write-interval-if-requires : tie.Need-write-interval-if-requires
+write-interval-if-requires c κs = search needs
 
 present-requires-2 : tie.Need-present-requires-2
 present-requires-2 c κs = search needs
@@ -63,12 +64,12 @@ num-if-requires-5 : tie.Need-num-if-requires-5
 num-if-requires-5 c κs = search needs
 
 returns-2 : tie.Need-returns-2
-unfolding periodicC field only
+unfolding periodicC moduliC field only
 returns-2 c =
     let a = c .before .before .before .before .before .before .before .before .before .before .before .before .before .before .before .before .before .before .before .before .before .before .before .before .args .a in
     let v : c .before .before .before .before .before .before .before .before .before .before .before .before .before .before .before .before .before .before .before .before .bits-of .result ≡ sentBits (isFive (a .interval)) (a .elements) = c .before .before .before .before .before .before .before .before .before .before .before .before .before .before .before .before .before .before .before .before .bits-of .ensures ∙ ap (λ (b : Bool). sentBits b (a .elements)) (c .before .before .before .before .before .before .before .before .before .before .before .before .before .before .before .before .before .before .before .before .before .before .before .is-five .ensures) in
-    inks-like _ _ _ _ (unless-le _ _ 5 (c .before .before .before .before .before .before .before .before .before .before .before .before .before .before .before .before .before .before .before .before .before .if1 .left)) (inks-by _ _ (rw v at (c .before .before .before .before .before .before .before .before .before .before .before .before .before .before .before .before .before .before .mask .ensures))
-    (inks-by _ _ (rw (c .before .before .before .before .before .before .before .before .before .before .before .before .before .before .before .before .present .ensures, v) at (c .before .before .before .before .before .before .before .before .before .before .before .before .before .before .before .write-sent-if .ensures)) (inks-by _ _ (rw (c .before .before .before .before .before .before .before .before .before .before .before .before .before .present2 .ensures, v) at (c .before .before .before .before .before .before .before .before .before .before .before .before .num-if .ensures))
+    inks-recast _ _ _ _ _ _ (unless-le _ _ 5 (c .before .before .before .before .before .before .before .before .before .before .before .before .before .before .before .before .before .before .before .before .before .if1 .left)) (inks-by _ _ (rw v at (c .before .before .before .before .before .before .before .before .before .before .before .before .before .before .before .before .before .before .mask .ensures))
+    (inks-by _ _ (rw (c .before .before .before .before .before .before .before .before .before .before .before .before .before .before .before .before .present .ensures, v) at (c .before .before .before .before .before .before .before .before .before .before .before .before .before .before .before .write-interval-if .ensures)) (inks-by _ _ (rw (c .before .before .before .before .before .before .before .before .before .before .before .before .before .present2 .ensures, v) at (c .before .before .before .before .before .before .before .before .before .before .before .before .num-if .ensures))
     (inks-by _ _ (rw (c .before .before .before .before .before .before .before .before .before .before .present3 .ensures, v) at (c .before .before .before .before .before .before .before .before .before .num-if2 .ensures)) (inks-by _ _ (rw (c .before .before .before .before .before .before .before .present4 .ensures, v) at (c .before .before .before .before .before .before .num-if3 .ensures))
     (inks-by _ _ (rw (c .before .before .before .before .present5 .ensures, v) at (c .before .before .before .num-if4 .ensures)) (rw (c .before .present6 .ensures, v) at (c .num-if5 .ensures))))))))
 
@@ -82,7 +83,7 @@ write-periodic-spec =
     bits-of-requires
     mask-requires
     present-requires
-    write-sent-if-requires
+    write-interval-if-requires
     present-requires-2
     num-if-requires
     present-requires-3
