@@ -5,7 +5,7 @@ use mathlib.Core.Bool.{Bool, true, false}
 use mathlib.Core.List.{List, [], _∷_}
 use native.Mathlib.Omega.{arith}
 use borrow.Author.Tests.{eq-eqb, ne-eqb, le-leb, lt-leb}
-use lib.Dec.{eqb, leb}
+use lib.Dec.{eqb}
 use lib.ListN.{length, take, drop}
 use Rattle.text.specs.Text.{pick, wordEnd}
 use Rattle.text.proofs.Laws.{part-all, take-min}
@@ -16,6 +16,7 @@ use Rattle.link.proofs.Laws.{pick-case}
 use Rattle.pdu.specs.declared.uplink.Ground.{Ground}
 use Rattle.pdu.specs.UplinkTable.{groundC}
 use Rattle.octets.specs.Octets.{quads}
+use Rattle.ground_answer.specs.declared.record.Link.{Link}
 use Rattle.ground_answer.specs.declared.answer.Answer.{Answer}
 use Rattle.ground_answer.specs.declared.fresh.Opened.{Opened}
 use Rattle.ground_answer.specs.Record.{fresh}
@@ -88,6 +89,11 @@ module _ (b : Setup) (line o : List ℕ) (room : ℕ) (big : 2048 ≤ room) (r :
           may-write (b .link) g (ap (λ (x : Call). answered (b .link) x (take m o) .said .refusal) (sym e) ∙ ap (λ (x : Answer). x .said .refusal) (sym said) ∙ z)
 
 -- ---- the settings, for a box that has none
+pub opened-fresh : (s : List ℕ) → opened s .refusal ≡ 0 → opened s .link ≡ fresh s
+unfolding opened
+opened-fresh s =
+    pick-case (λ (x : Opened). x .refusal ≡ 0 → x .link ≡ fresh s) (below timers (settingOk s)) {x = record { refusal = 0; link = fresh s }} (λ e f. refl) (λ e f. absurd (omega (arith, f)))
+
 abbrev pub setHeard : Setup → List ℕ → Heard
 setHeard b tail = heard (settingsReply b tail .box) (settingsKept (settingsIn tail))
 
@@ -107,11 +113,10 @@ module _ (b : Setup) (tail : List ℕ) (s : Settings) (is : s ≡ settingsIn tai
       opened-heard = rw (← is, good, ← opens, eq-eqb _ 0 z)
 
       same-settings : o .link .setting ≡ s .list
-      unfolding opened fresh
+      unfolding fresh
       same-settings =
-          let Q : Opened → Type 0 = λ x. x .refusal ≡ 0 → x .link .setting ≡ s .list in
-          let q : Q (opened (s .list)) = pick-case Q (below timers (settingOk (s .list))) (λ e f. refl) (λ e f. absurd (omega (arith, f))) in
-          ap (λ (x : Opened). x .link .setting) opens ∙ q (ap (λ (x : Opened). x .refusal) (sym opens) ∙ z)
+          ap (λ (x : Opened). x .link .setting) opens
+          ∙ ap (λ (x : Link). x .setting) (opened-fresh (s .list) (ap (λ (x : Opened). x .refusal) (sym opens) ∙ z))
 
       pub opened-hears : (len : ℕ) (p : List ℕ) → take len p ≡ quads (o .link .setting) → Hears (setHeard b tail) (kept (readySetup (o .link)) 0 0 len) p
       unfolding settingsRecord

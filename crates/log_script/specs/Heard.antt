@@ -3,14 +3,13 @@ use mathlib.Core.Path.{_≡_}
 use mathlib.Core.List.{List, [], _∷_}
 use Prim.Native.Nat.{ℕ}
 use lib.Dec.{eqb, leb}
-use lib.ListN.{length, take, drop}
+use lib.ListN.{take, drop}
 use Rattle.text.specs.Text.{pick, wordEnd}
 use Rattle.ground_answer.specs.declared.record.Link.{Link}
 use Rattle.ground_answer.specs.Fresh.{opened}
 use Rattle.ground.specs.declared.call.Call.{Call}
 use Rattle.ground.specs.Runs.{answered}
 use Rattle.script.specs.Lines.{Parsed, unread, makes, isSet}
-use Rattle.script.specs.Replies.{Reply}
 use Rattle.bench_line.specs.Lines.{parsedLine}
 use Rattle.bench_line.specs.Settings.{settingsIn}
 use Rattle.bench_line.specs.declared.settings.Settings.{Settings}

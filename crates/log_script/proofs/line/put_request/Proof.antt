@@ -1,4 +1,3 @@
-use denote.Ref.{now}
 use Rattle.log_script.proofs.Fronts.{request-front, request-goes}
 use borrow.Author.Needs.{needs}
 use Rattle.log_script.proofs.line.put_request.Statement.{statement}
