@@ -156,7 +156,7 @@ fn block_call(w: usize, link: &mut [u8], octets: &[u8], numbers: &[u32]) -> u8
     let first = number(numbers, 0);
     match w {
         BLOCK_OPEN => adsc_block_open(link, first),
-        BLOCK_APPEND => { adsc_block_append(link, (first % 256) as u8, number(numbers, 1), octets) }
+        BLOCK_APPEND => adsc_block_append(link, (first % 256) as u8, number(numbers, 1), octets),
         BLOCK_FINISH => adsc_block_finish(link),
         _ => adsc_block_play(link, octets, first),
     }
