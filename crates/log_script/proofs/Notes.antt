@@ -2,12 +2,13 @@
 use Prim.Native.Nat.{ℕ, min}
 use mathlib.Core.Path.{_≡_, refl, sym, ap, subst, _∙_}
 use mathlib.Core.Bool.{Bool, true, false}
-use mathlib.Core.List.{List, []}
+use mathlib.Core.List.{List, [], _∷_}
 use borrow.Author.Tests.{eq-eqb, ne-eqb}
 use lib.ListN.{length, take}
 use Rattle.text.specs.Text.{pick}
 use Rattle.text.specs.Page.{Page, page, Writes}
 use Rattle.text.proofs.Laws.{take-min}
+use Rattle.bench.specs.declared.reply.Setup.{Setup}
 use Rattle.log.specs.declared.Appended.{Appended}
 use Rattle.log.specs.declared.Appended.the-variants.{Wrote, Full, Ended, Refused}
 use Rattle.log.specs.declared.Finished.{Finished}
@@ -16,7 +17,8 @@ use Rattle.log.specs.Record.{Rec, rec, noted}
 use Rattle.log.specs.Tapes.{appended, appendedTo, finished, Appends, Finishes}
 use Rattle.log_script.specs.declared.line.Entry.{Entry}
 use Rattle.log_script.specs.declared.recorder.Recorder.{Recorder}
-use Rattle.log_script.specs.Notes.{entryRec, movedTo, afterAppend, afterFinish, Desk, desk, entered, turned, noteOn, closed, Leaves, Enters}
+use Rattle.log_script.specs.Notes.{entryRec, movedTo, afterAppend, afterFinish, Desk, desk, entered, turned, noteOn, heardBy, keptOn, lineOn, closed, Leaves, Enters}
+use Rattle.log_script.specs.Heard.{Heard, Hears}
 
 -- ---- a record that `append` was asked for
 module _ (r : Recorder) (e : Entry) (o b : List ℕ) (n : ℕ) (l : n ≡ min (e .len) (length o)) (a : Appended) (left : List ℕ)
@@ -112,6 +114,31 @@ module _ (r : Recorder) (b out : List ℕ) (x : Rec) (f : Recorder) (left : List
         (ap (λ (k : Bool). pick k (entered (turned (entered d x)) x) (entered d x)) (ap (λ (y : Recorder). y .full) (sym (is .recorder-is)) ∙ e)
         ∙ ap (λ (y : Desk). entered (turned y) x) first-is)
         (subst (λ (n : ℕ). Leaves (entered (turned (desk f left [])) x) (page out n) q last after) first-at two)
+
+-- ---- a whole line
+module _ (r : Recorder) (b : List ℕ) (h : Heard) (e : Entry) (o : List ℕ) (is : Hears h e o) where
+  abbrev base : Desk
+  base = desk (heardBy r (e .setup)) b []
+
+  by-entry : (k : Bool) → e .kept ≡ k → lineOn (desk r b []) h ≡ keptOn base (pick k (rec (e .kind) (e .seconds) (take (e .len) o) ∷ []) [])
+  unfolding lineOn
+  by-entry k q =
+      ap (λ (x : Setup). keptOn (desk (heardBy r x) b []) (h .kept)) (sym (is .box-is))
+      ∙ ap (keptOn base) (sym (is .record-is) ∙ ap (λ (x : Bool). pick x (rec (e .kind) (e .seconds) (take (e .len) o) ∷ []) []) q)
+
+  pub line-none : (out : List ℕ) → e .kept ≡ false → Leaves (lineOn (desk r b []) h) (page out (r .at)) (heardBy r (e .setup)) b out
+  line-none out k = leaves-as _ _ b out (by-entry false k) (begins (heardBy r (e .setup)) b out)
+
+  module _ (k : e .kept ≡ true) where
+    by-end : (n : Bool) → r .ended ≡ n → lineOn (desk r b []) h ≡ pick n base (noteOn base (entryRec e o))
+    by-end n q = by-entry true k ∙ ap (λ (x : Bool). pick x base (noteOn base (entryRec e o))) q
+
+    pub line-ended : (out : List ℕ) → r .ended ≡ true → Leaves (lineOn (desk r b []) h) (page out (r .at)) (heardBy r (e .setup)) b out
+    line-ended out n = leaves-as _ _ b out (by-end true n) (begins (heardBy r (e .setup)) b out)
+
+    pub line-noted : (p : Page) (q : Recorder) (left after : List ℕ) → r .ended ≡ false → Leaves (noteOn base (entryRec e o)) p q left after
+        → Leaves (lineOn (desk r b []) h) p q left after
+    line-noted p q left after n x = leaves-as p q left after (by-end false n) x
 
 -- ---- the end of the log
 module _ (r : Recorder) (b out : List ℕ) where

@@ -1,12 +1,13 @@
 -- The log of a script while it is written. `log` says what `append` and `finish` do with a block.
 use mathlib.Core.Path.{_≡_}
 use mathlib.Core.Bool.{Bool, true, false, not}
-use mathlib.Core.List.{List, [], _++_}
+use mathlib.Core.List.{List, [], _∷_, _++_}
 use Prim.Native.Nat.{ℕ}
 use lib.Dec.{eqb}
 use lib.ListN.{length, take}
 use Rattle.text.specs.Text.{pick}
 use Rattle.text.specs.Page.{Page, page, Writes}
+use Rattle.bench.specs.declared.reply.Setup.{Setup}
 use Rattle.log.specs.declared.Tape.{Tape}
 use Rattle.log.specs.declared.Appended.{Appended}
 use Rattle.log.specs.declared.Appended.the-variants.{Wrote, Full, Ended, Refused}
@@ -16,6 +17,7 @@ use Rattle.log.specs.Record.{Rec, rec, noted}
 use Rattle.log.specs.Tapes.{appended, appendedTo, finished, finishedTo}
 use Rattle.log_script.specs.declared.line.Entry.{Entry}
 use Rattle.log_script.specs.declared.recorder.Recorder.{Recorder}
+use Rattle.log_script.specs.Heard.{Heard}
 
 -- the record of an entry, as the log keeps it
 abbrev pub entryRec : Entry → List ℕ → Rec
@@ -63,6 +65,17 @@ turned d =
 -- "A record that doesn't fit opens the next block"
 unfoldable pub noteOn : Desk → Rec → Desk
 noteOn d x = pick (entered d x .recorder .full) (entered (turned (entered d x)) x) (entered d x)
+
+-- the box after a line; a log that has ended takes no record more, so that what it has plays as the calls went
+abbrev pub heardBy : Recorder → Setup → Recorder
+heardBy r b = record { setup = b; tape = r .tape; at = r .at; full = false; ended = r .ended }
+
+abbrev pub keptOn : Desk → List Rec → Desk
+keptOn d [] = d
+keptOn d (x ∷ xs) = pick (d .recorder .ended) d (noteOn d (noted x))
+
+unfoldable pub lineOn : Desk → Heard → Desk
+lineOn d h = keptOn (desk (heardBy (d .recorder) (h .box)) (d .block) (d .text)) (h .kept)
 
 -- the block that is begun is the last one; none where it has no record
 unfoldable pub closed : Desk → Desk

@@ -20,7 +20,8 @@ use text_lines::input::start;
 ghost use mathlib.Core.Path.{_≡_};
 ghost use mathlib.Core.List.{[]};
 ghost use Rattle.text.specs.Page.{page};
-ghost use Rattle.log_script.specs.Notes.{entryRec, atTape, stoppedAt, desk, entered, turned, noteOn, closed, Leaves, Enters};
+ghost use Rattle.log_script.specs.Heard.{heardLine};
+ghost use Rattle.log_script.specs.Notes.{entryRec, atTape, stoppedAt, desk, entered, turned, noteOn, lineOn, closed, Leaves, Enters};
 
 // The box, the block that is being written, and the place of the pen on the page of finished ones. A block that is `full` is to be finished before the next record,
 // and a log that has `ended` takes no record more.
@@ -102,7 +103,9 @@ fn note(r: Recorder, e: Entry, octets: &[u8], block: &mut [u8], out: &mut [u8]) 
 }
 
 // One line: its call is answered, and recorded where it is accepted.
-fn add_line(r: Recorder, line: &[u8], block: &mut [u8], out: &mut [u8]) -> Recorder {
+fn add_line(r: Recorder, line: &[u8], block: &mut [u8], out: &mut [u8]) -> Recorder
+    ensures { λ q. ⌜ Leaves (lineOn (desk r (now (block .entry)) []) (heardLine (r .setup) (now (line .entry)))) (page (now (out .entry)) (r .at)) q (now (block .exit)) (now (out .exit)) ⌝ }
+{
     let mut octets = line_room();
     let setup = r.setup;
     let e = hear_line(setup, line, &mut octets);
