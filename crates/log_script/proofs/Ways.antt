@@ -134,6 +134,9 @@ module _ (b : Setup) (line : List ℕ) (room : ℕ) (big : 2048 ≤ room) where
   unfolding heardInto
   line-long = ap (λ (x : Bool). pick x (heardLine b line) (heard b [])) (le-leb 2048 room big)
 
+  pub hears-whole : (e : Entry) (o : List ℕ) → Hears (heardInto room b line) e o → Hears (heardLine b line) e o
+  hears-whole e o x = hears-as e o (sym line-long) x
+
   both-are : (r : Reply Setup) (k : List Rec) → lineReply b line ≡ r → lineKept b line ≡ k → heardInto room b line ≡ heard (r .box) k
   both-are r k e f = line-long ∙ ap (λ (x : Reply Setup). heard (x .box) (lineKept b line)) e ∙ ap (heard (r .box)) f
 

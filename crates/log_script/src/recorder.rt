@@ -17,6 +17,11 @@ use text_lines::input::finish;
 use text_lines::input::pull_line;
 use text_lines::input::shown;
 use text_lines::input::start;
+ghost use mathlib.Core.Path.{_≡_};
+ghost use mathlib.Core.List.{[]};
+ghost use Rattle.text.specs.Page.{page};
+ghost use Rattle.log_script.specs.Heard.{heardLine};
+ghost use Rattle.log_script.specs.Notes.{entryRec, atTape, stoppedAt, desk, entered, turned, noteOn, lineOn, closed, Leaves, Enters};
 
 // The box, the block that is being written, and the place of the pen on the page of finished ones. A block that is `full` is to be finished before the next record,
 // and a log that has `ended` takes no record more.
@@ -28,7 +33,9 @@ pub struct Recorder {
     pub ended: bool,
 }
 
-fn at_tape(r: Recorder, tape: Tape) -> Recorder {
+fn at_tape(r: Recorder, tape: Tape) -> Recorder
+    ensures { λ q. ⌜ q ≡ atTape r tape ⌝ }
+{
     let setup = r.setup;
     Recorder {
         setup,
@@ -39,7 +46,9 @@ fn at_tape(r: Recorder, tape: Tape) -> Recorder {
     }
 }
 
-fn stopped(r: Recorder, full: bool) -> Recorder {
+fn stopped(r: Recorder, full: bool) -> Recorder
+    ensures { λ q. ⌜ q ≡ stoppedAt r full ⌝ }
+{
     let setup = r.setup;
     let tape = r.tape;
     Recorder {
@@ -52,7 +61,9 @@ fn stopped(r: Recorder, full: bool) -> Recorder {
 }
 
 // The record of a line into the block, if it has room.
-fn put_entry(r: Recorder, e: Entry, octets: &[u8], block: &mut [u8]) -> Recorder {
+fn put_entry(r: Recorder, e: Entry, octets: &[u8], block: &mut [u8]) -> Recorder
+    ensures { λ q. ⌜ Enters (entered (desk r (now (block .entry)) []) (entryRec e (now (octets .entry)))) q (now (block .exit)) ⌝ }
+{
     let tape = r.tape;
     let n = least(e.len, octets.len());
     let a = append(tape, block, e.kind, e.seconds, &octets[..n]);
@@ -65,7 +76,9 @@ fn put_entry(r: Recorder, e: Entry, octets: &[u8], block: &mut [u8]) -> Recorder
 }
 
 // Finishes the block, which then stands on the page.
-fn turn_block(r: Recorder, block: &mut [u8], out: &mut [u8]) -> Recorder {
+fn turn_block(r: Recorder, block: &mut [u8], out: &mut [u8]) -> Recorder
+    ensures { λ q. ⌜ Leaves (turned (desk r (now (block .entry)) [])) (page (now (out .entry)) (r .at)) q (now (block .exit)) (now (out .exit)) ⌝ }
+{
     let mut t = r;
     let tape = r.tape;
     let f = log::finish(tape, block);
@@ -73,12 +86,14 @@ fn turn_block(r: Recorder, block: &mut [u8], out: &mut [u8]) -> Recorder {
     match f {
         Finished::Next(next) => at_tape(t, next),
         Finished::Last => stopped(t, false),
-        Finished::Unfit => stopped(r, false),
+        Finished::Unfit => stopped(t, false),
     }
 }
 
 // The record of a line: one that doesn't fit opens the next block.
-fn note(r: Recorder, e: Entry, octets: &[u8], block: &mut [u8], out: &mut [u8]) -> Recorder {
+fn note(r: Recorder, e: Entry, octets: &[u8], block: &mut [u8], out: &mut [u8]) -> Recorder
+    ensures { λ q. ⌜ Leaves (noteOn (desk r (now (block .entry)) []) (entryRec e (now (octets .entry)))) (page (now (out .entry)) (r .at)) q (now (block .exit)) (now (out .exit)) ⌝ }
+{
     let first = put_entry(r, e, octets, block);
     if !first.full {
         return first;
@@ -88,7 +103,9 @@ fn note(r: Recorder, e: Entry, octets: &[u8], block: &mut [u8], out: &mut [u8]) 
 }
 
 // One line: its call is answered, and recorded where it is accepted.
-fn add_line(r: Recorder, line: &[u8], block: &mut [u8], out: &mut [u8]) -> Recorder {
+fn add_line(r: Recorder, line: &[u8], block: &mut [u8], out: &mut [u8]) -> Recorder
+    ensures { λ q. ⌜ Leaves (lineOn (desk r (now (block .entry)) []) (heardLine (r .setup) (now (line .entry)))) (page (now (out .entry)) (r .at)) q (now (block .exit)) (now (out .exit)) ⌝ }
+{
     let mut octets = line_room();
     let setup = r.setup;
     let e = hear_line(setup, line, &mut octets);
@@ -148,7 +165,9 @@ fn run(
 }
 
 // The block that is begun is the last one; none where it has no record.
-fn close_log(r: Recorder, block: &mut [u8], out: &mut [u8]) -> Recorder {
+fn close_log(r: Recorder, block: &mut [u8], out: &mut [u8]) -> Recorder
+    ensures { λ q. ⌜ Leaves (closed (desk r (now (block .entry)) [])) (page (now (out .entry)) (r .at)) q (now (block .exit)) (now (out .exit)) ⌝ }
+{
     let tape = r.tape;
     if tape.used == 0 {
         return r;

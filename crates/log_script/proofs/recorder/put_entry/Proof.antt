@@ -1,3 +1,5 @@
+use denote.Ref.{now}
+use Rattle.log_script.proofs.Notes.{enters-by}
 use mathlib.Core.Path.{sym}
 use lib.Seq.{length-take-le}
 use borrow.Author.Needs.{needs}
@@ -41,25 +43,37 @@ same-length : tie.Need-same-length
 same-length c = search needs
 
 returns : tie.Need-returns
-returns c = search needs
+returns c =
+    let a = c .before .before .before .before .before .before .before .before .before .before .before .before .before .args in
+    let n = c .before .before .before .before .before .before .append in
+    enters-by (a .r) (a .e) (now (a .octets)) _ _ (c .before .before .before .before .before .before .before .before .before .least .ensures .is) _ _ (n .ensures) _ (c .before .before .a .given .1) _ (c .at-tape .ensures)
 
 same-length-2 : tie.Need-same-length-2
 same-length-2 c = search needs
 
 returns-2 : tie.Need-returns-2
-returns-2 c = search needs
+returns-2 c =
+    let a = c .before .before .before .before .before .before .before .before .before .before .before .before .args in
+    let n = c .before .before .before .before .before .append in
+    enters-by (a .r) (a .e) (now (a .octets)) _ _ (c .before .before .before .before .before .before .before .before .least .ensures .is) _ _ (n .ensures) _ (c .before .enum-told .given .1) _ (c .stopped .ensures)
 
 same-length-3 : tie.Need-same-length-3
 same-length-3 c = search needs
 
 returns-3 : tie.Need-returns-3
-returns-3 c = search needs
+returns-3 c =
+    let a = c .before .before .before .before .before .before .before .before .before .before .before .before .args in
+    let n = c .before .before .before .before .before .append in
+    enters-by (a .r) (a .e) (now (a .octets)) _ _ (c .before .before .before .before .before .before .before .before .least .ensures .is) _ _ (n .ensures) _ (c .before .enum-told2 .given .1) _ (c .stopped2 .ensures)
 
 same-length-4 : tie.Need-same-length-4
 same-length-4 c = search needs
 
 returns-4 : tie.Need-returns-4
-returns-4 c = search needs
+returns-4 c =
+    let a = c .before .before .before .before .before .before .before .before .before .before .before .before .args in
+    let n = c .before .before .before .before .before .append in
+    enters-by (a .r) (a .e) (now (a .octets)) _ _ (c .before .before .before .before .before .before .before .before .least .ensures .is) _ _ (n .ensures) _ (c .before .enum-told3 .given .1) _ (c .stopped3 .ensures)
 
 pub put-entry-spec : {M : Type 1} → statement M
 put-entry-spec =
