@@ -1,7 +1,7 @@
 -- The blocks of a log in turn, as laws. Assumes nothing.
 use Prim.Native.Nat.{ℕ, zero, suc, _+_}
 use mathlib.Core.Path.{_≡_, refl, sym, ap, _∙_}
-use mathlib.Core.Bool.{Bool, true, false}
+use mathlib.Core.Bool.{Bool, true, false, false≢true}
 use mathlib.Core.List.{List, [], _∷_}
 use native.Mathlib.Omega.{arith}
 use Rattle.ground_answer.specs.declared.answer.Answer.{Answer}
@@ -19,8 +19,8 @@ use Rattle.log_play.proofs.Walks.{refused-number}
 use Rattle.log_bench.specs.Shown.{countOn, Shows}
 use Rattle.log_bench.specs.Logs.{Outcome, outcome, ended, ofPlay, ofBlock, outcomeOf, Ends}
 
-pub ends-failed : {k n : ℕ} {b : Setup} {o : Outcome} → Ends k n b o true
-ends-failed = record { blocks = []; is = λ well. let y : _≡_ {A = ℕ} 0 1 = cc in absurd (omega arith) }
+pub ends-lost : {k n : ℕ} {b : Setup} {o : Outcome} {failed : Bool} → failed ≡ true → Ends k n b o failed
+ends-lost e = record { blocks = []; is = λ well. absurd (false≢true (sym well ∙ e)) }
 
 pub ends-here : {k n : ℕ} {b : Setup} {o : Outcome} {failed : Bool} → o ≡ ended k n b → Ends k n b o failed
 ends-here e = record { blocks = []; is = λ well. e }

@@ -16,7 +16,7 @@ use text_lines::input::Ended;
 use text_lines::input::finish;
 ghost use mathlib.Core.Path.{_≡_};
 ghost use Prim.Native.Nat.{_≤_};
-ghost use mathlib.Core.Bool.{false};
+ghost use mathlib.Core.Bool.{true, false};
 ghost use lib.ListN.{length};
 ghost use Rattle.bench.specs.declared.reply.Setup.{Setup};
 ghost use Rattle.text.specs.Page.{page};
@@ -80,6 +80,18 @@ fn end_log(t: Trace, block: u32) -> LogEnd
     }
 }
 
+// A read that fails ends the trace before the log's end.
+fn cut_off(t: Trace, block: u32) -> LogEnd
+    ensures { λ r. ⌜ r .failed ≡ true ⌝ }
+{
+    LogEnd {
+        trace: t,
+        refusal: 0,
+        block,
+        failed: true,
+    }
+}
+
 // Plays every block of the log. Behind the last number none is in turn, so the loop has turns enough.
 fn run(t: Trace, block: &mut [u8], out: &mut [u8]) -> LogEnd
     requires { ⌜ 131072 ≤ length (now out) ⌝ }
@@ -91,12 +103,7 @@ fn run(t: Trace, block: &mut [u8], out: &mut [u8]) -> LogEnd
         let p = pull_block(block);
         let n = p.len;
         if p.failed {
-            return LogEnd {
-                trace: e,
-                refusal: 0,
-                block: k,
-                failed: true,
-            };
+            return cut_off(e, k);
         }
         if n == 0 {
             return end_log(e, k);
@@ -121,12 +128,7 @@ fn run(t: Trace, block: &mut [u8], out: &mut [u8]) -> LogEnd
         };
         k += 1;
     }
-    LogEnd {
-        trace: e,
-        refusal: 0,
-        block: k,
-        failed: true,
-    }
+    cut_off(e, k)
 }
 
 // The last line of the trace, which stands there only if the log was read to its end.

@@ -6,7 +6,7 @@ use lib.ListN.{length}
 use lib.Seq.{length-take-le}
 use Rattle.log.proofs.Walks.{ready}
 use Rattle.log_bench.specs.Logs.{Outcome, Ends}
-use Rattle.log_bench.proofs.Ending.{ends-failed, ends-here, ends-refused, block-judged, ends-block}
+use Rattle.log_bench.proofs.Ending.{ends-lost, ends-here, ends-refused, block-judged, ends-block}
 use borrow.Author.Needs.{needs}
 use Rattle.log_bench.proofs.player.run.Statement.{statement}
 use Rattle.log_bench.proofs.player.run.Tie as tie
@@ -27,14 +27,17 @@ loop-holds c = (refl, refl, omega arith, λ o f d. d)
 pull-block-requires : tie.Need-pull-block-requires Inv-loop μ-loop
 pull-block-requires c κs = search needs
 
+cut-off-requires : tie.Need-cut-off-requires Inv-loop μ-loop
+cut-off-requires c κs = search needs
+
 same-length : tie.Need-same-length Inv-loop μ-loop
-same-length c = c .before .before .before .pull-block .kept .0 ∙ c .before .before .before .before .before .before .loop .inv .0
+same-length c = c .before .before .before .before .pull-block .kept .0 ∙ c .before .before .before .before .before .before .before .loop .inv .0
 
 same-length-2 : tie.Need-same-length-2 Inv-loop μ-loop
-same-length-2 c = c .before .before .before .before .before .before .loop .inv .1
+same-length-2 c = c .before .before .before .before .before .before .before .loop .inv .1
 
 returns : tie.Need-returns Inv-loop μ-loop
-returns c = c .before .before .before .before .before .before .loop .inv .3 _ _ ends-failed
+returns c = c .before .before .before .before .before .before .before .loop .inv .3 _ _ (ends-lost (c .cut-off .ensures))
 
 end-log-requires : tie.Need-end-log-requires Inv-loop μ-loop
 end-log-requires c κs = search needs
@@ -93,14 +96,17 @@ loop-again c =
       λ o f d. v .3 o f (ends-block _ _ _ _ _ (c .before .before .before .before .before .before .before .play-block .ensures) (c .before .before .before .before .before .before .if3 .left) _ _ o f (c .before .before .before .show-block .ensures) d),
     )
 
+cut-off-requires-2 : tie.Need-cut-off-requires-2 Inv-loop μ-loop
+cut-off-requires-2 c κs = search needs
+
 same-length-7 : tie.Need-same-length-7 Inv-loop μ-loop
-same-length-7 c = c .before .loop .inv .0
+same-length-7 c = c .before .before .loop .inv .0
 
 same-length-8 : tie.Need-same-length-8 Inv-loop μ-loop
-same-length-8 c = c .before .loop .inv .1
+same-length-8 c = c .before .before .loop .inv .1
 
 returns-4 : tie.Need-returns-4 Inv-loop μ-loop
-returns-4 c = c .before .loop .inv .3 _ _ ends-failed
+returns-4 c = c .before .before .loop .inv .3 _ _ (ends-lost (c .cut-off2 .ensures))
 
 pub run-spec : {M : Type 1} → statement M
 run-spec =
@@ -110,6 +116,7 @@ run-spec =
     μ-loop
     loop-holds
     pull-block-requires
+    cut-off-requires
     same-length
     same-length-2
     returns
@@ -129,6 +136,7 @@ run-spec =
     add-k
     loop-less
     loop-again
+    cut-off-requires-2
     same-length-7
     same-length-8
     returns-4)
