@@ -41,6 +41,11 @@ extern "C" {
 #define ADSC_SENT_MOST 17       /* octets of the PDU in one answer */
 #define ADSC_SECONDS_MOST 86400 /* of a setting and of one adsc_elapse */
 #define ADSC_INTERVAL_MOST 7200 /* seconds of a record's interval: 120 minutes, the longest that can be asked for */
+#define ADSC_BLOCK_OCTETS 512   /* of a block of the flight log, exactly, */
+#define ADSC_PAYLOAD_MOST 504   /* of its records together, */
+#define ADSC_KEPT_MOST 129      /* of the data of a record: one more than reads, so that longer data gets the same answer */
+#define ADSC_SETTINGS_OCTETS 36 /* of the data of a settings record, exactly */
+#define ADSC_BLOCKS_MOST 16777216 /* of a log: its block numbers are below */
 
 /* ---- refusals */
 
@@ -51,7 +56,7 @@ enum adsc_refusal {
     ADSC_BAD_SETTING = 3,       /* setting not 1..86,400, or not nine of them */
     ADSC_ELAPSE_OVER = 4,       /* elapse over 86,400 */
     ADSC_OUT_OF_RANGE = 5,      /* field to write out of range */
-    ADSC_NO_ROOM = 6,           /* output shorter than the PDU, the numbers, the answer or the record; judged last */
+    ADSC_NO_ROOM = 6,           /* output shorter than the PDU, the numbers, the answer or the record; a block without room; judged last */
     ADSC_CUT_SHORT = 7,         /* input ends inside a field */
     ADSC_ABOVE_RANGE = 8,       /* sent value above its range or index unused */
     ADSC_EXTENSION_SET = 9,     /* extension bit set */
@@ -63,6 +68,10 @@ enum adsc_refusal {
     ADSC_NO_ELEMENT = 15,       /* event contract with no element */
     ADSC_INPUT_OVER = 16,       /* input over 128 octets */
     ADSC_SCRIPT_LINE = 17,      /* script line not readable: of the bench's scripts, no function gives it */
+    ADSC_CHECK_WRONG = 18,      /* block of a log: check wrong */
+    ADSC_OUT_OF_TURN = 19,      /* block number out of turn */
+    ADSC_NOT_READABLE = 20,     /* record of a log not readable: cut short, wrong length or zeros, a field its call does not use, no settings first or settings
+                                 * elsewhere, refused in play; a block not of 512 octets */
     ADSC_BAD_RECORD = 29        /* link record: running timers not those of the watch table, seconds left not 1..setting (of PC2: 1..interval in force plus
                                  * setting), a setting not 1..86,400, an interval missing from its state of PC, foreign to it, or over 7,200, or LI in IDLE or
                                  * END with a module not IDLE; numbers that are no states; not of 85 octets */
@@ -404,6 +413,102 @@ uint8_t adsc_air_abort(uint8_t *link, size_t link_length, const uint8_t *octets,
 
 /* D-P-ABORT indication: reason 0. */
 uint8_t adsc_down(uint8_t *link, size_t link_length, uint8_t *answer, size_t answer_length);
+
+/* ---- the flight log: every accepted call of one link, in blocks of ADSC_BLOCK_OCTETS octets that a host keeps one after the other, on a disk say. Blocks are
+ * numbered from 0. Octets 0 to 3 of a block are its number, 4 and 5 the length of its payload, from 6 on the payload and zeros, 510 and 511 a check: every
+ * single octet that is changed later is found. Numbers go most significant octet first.
+ *
+ * To keep a log: adsc_block_open makes block 0, adsc_block_append records the settings and then each call that was accepted, right after the call. Where a
+ * block has no room (6) finish it, keep it, open the next number and append there. adsc_block_finish makes a block whole, at any time: it may be kept then, and
+ * again with more in it, in place, as its number stays. To read one: adsc_block_play, block by block from number 0. A block that was cut off while it was
+ * written is refused there, 20 where the log ends in it, else 18; the record stands as the blocks before it left it, and the log may go on with that number
+ * (examples/host/log.c). */
+
+/* The kinds of calls that a record has. */
+enum adsc_call {
+    ADSC_CALL_SETTINGS = 0,         /* adsc_open: the first record and no other. Its data: the settings, as a link record starts with them */
+    ADSC_CALL_REQUEST = 1,          /* adsc_request. Its data: the PDU, as adsc_write_ground writes it */
+    ADSC_CALL_USER_ABORT = 2,
+    ADSC_CALL_ELAPSE = 3,           /* adsc_elapse: it alone has seconds */
+    ADSC_CALL_START_CONFIRM = 4,    /* its data: the octets that came, of more than ADSC_KEPT_MOST the first of them */
+    ADSC_CALL_START_REJECTED = 5,
+    ADSC_CALL_DATA = 6,             /* the same */
+    ADSC_CALL_END_CONFIRM = 7,
+    ADSC_CALL_PEER_ABORT = 8,
+    ADSC_CALL_AIR_ABORT = 9,        /* the same */
+    ADSC_CALL_DOWN = 10
+};
+
+/* An empty block of this number: the number, zeros. Refuses: 5 (a number not below ADSC_BLOCKS_MOST: the log is at its end), 6 (a block that is not of 512
+ * octets). */
+uint8_t adsc_block_open(uint8_t *block, size_t block_length, uint32_t number);
+
+/* Records a call behind those that the block has: the kind, four octets of seconds, an octet of length, the data; the payload length moves on, and every other
+ * octet stays, the check too. Seconds are those of an elapse, else 0. Refuses, in this order: 20 (a block that is not of 512 octets, or whose number or payload
+ * length is none that adsc_block_open and this function make: not below ADSC_BLOCKS_MOST, over ADSC_PAYLOAD_MOST), 5 (a kind over ADSC_CALL_DOWN; seconds not 0,
+ * where the call is no elapse; data, where the call has none; settings that are not ADSC_SETTINGS_OCTETS octets), 6 (the payload and the record are over
+ * ADSC_PAYLOAD_MOST together). */
+uint8_t adsc_block_append(uint8_t *block, size_t block_length, uint8_t kind, uint32_t seconds, const uint8_t *data, size_t data_length);
+
+/* Zeros behind the payload, and the check. Refuses: 20 as adsc_block_append. */
+uint8_t adsc_block_finish(uint8_t *block, size_t block_length);
+
+/* Judges a block, which is to have this number, and plays its records on the link: the record is then as the calls had left it. A link record of 85 zeros is
+ * one that has no settings yet, as before block 0. Refuses, in this order: 29 (a record that is neither good nor of zeros), 20 (a block that is not of 512
+ * octets), 18, 19 (also where the number is not below ADSC_BLOCKS_MOST), 20: a payload length over ADSC_PAYLOAD_MOST, octets behind the payload that are not
+ * zero, and of each record that it does not lie in the payload wholly, a kind over ADSC_CALL_DOWN, data over ADSC_KEPT_MOST, seconds or data that its call does
+ * not use, settings that are not the first record of the log or are not of ADSC_SETTINGS_OCTETS octets, another first record, a request that does not read,
+ * a call that the link refuses. A block is played wholly or not at all. One without records is good and leaves the record. */
+uint8_t adsc_block_play(uint8_t *link, size_t link_length, const uint8_t *block, size_t block_length, uint32_t number);
+
+/* What a block holds, for a host that looks at the calls themselves. The block is one that these functions have made or taken: the readers check nothing
+ * in it. Its number, */
+static inline uint32_t adsc_block_number(const uint8_t *block)
+{
+    return adsc_number_at(block);
+}
+
+/* where its first record starts, */
+static inline size_t adsc_block_first(void)
+{
+    return 6;
+}
+
+/* and where its records end: a record starts at each place that adsc_record_next gives before it. */
+static inline size_t adsc_block_end(const uint8_t *block)
+{
+    return adsc_block_first() + ((size_t)block[4] << 8 | block[5]);
+}
+
+/* Of the record that starts at a place its kind, enum adsc_call, */
+static inline uint8_t adsc_record_kind(const uint8_t *block, size_t at)
+{
+    return block[at];
+}
+
+/* its seconds, */
+static inline uint32_t adsc_record_seconds(const uint8_t *block, size_t at)
+{
+    return adsc_number_at(block + at + 1);
+}
+
+/* how many octets of data it has, */
+static inline size_t adsc_record_length(const uint8_t *block, size_t at)
+{
+    return block[at + 5];
+}
+
+/* where they stand, */
+static inline const uint8_t *adsc_record_data(const uint8_t *block, size_t at)
+{
+    return block + at + 6;
+}
+
+/* and where the next record starts. */
+static inline size_t adsc_record_next(const uint8_t *block, size_t at)
+{
+    return at + 6 + adsc_record_length(block, at);
+}
 
 /* ---- PDUs, without a link */
 

@@ -1,11 +1,12 @@
 """Compares a program that makes the calls of include/adsc.h from lines with hostmodel.py, on fresh random lines.
 
-    compare_host.py [--writing N] [--records N] [--seed S] [--change NAME] -- PROGRAM [ARGS..]
-    compare_host.py [--writing N] [--records N] [--seed S] --self
+    compare_host.py [--writing N] [--records N] [--blocks N] [--seed S] [--change NAME] -- PROGRAM [ARGS..]
+    compare_host.py [--writing N] [--records N] [--blocks N] [--seed S] --self
     compare_host.py --list
 
 PROGRAM is hostcall. Writing is from numbers: each at its edges, each two things out of order, every room; calls are on link records, good and
-one step off. --change compares with a model of which one rule is changed: then the comparison must fail. --self compares each such model with the
+one step off; blocks of the flight log are opened, appended to, finished and played,
+damaged ones too. --change compares with a model of which one rule is changed: then the comparison must fail. --self compares each such model with the
 plain one, without a program, and wants all told apart. --list prints their names. Exit 0: no differences, and everything that is due was met.
 """
 
@@ -20,18 +21,20 @@ import sys
 
 import hostlines
 import hostmodel
+import logmodel
 import percoder
 from altering import replaced
 from hostmodel import INTERVALS, LINK_OCTETS, ORDER, RULES, STATES
 from percoder import PRESENCE
 
 REFUSALS = {'write_ground': (5, 6, 10, 15), 'write_air': (5, 6, 10, 12), 'open': (3, 6), 'request': (29, 1, 5, 10, 15, 6), 'elapse': (29, 4, 6),
-            **{word: (29, 1, 6) if word == 'user_abort' else (29, 2, 6) for word in hostmodel.CALLS if word not in ('request', 'elapse')}}
+            **{word: (29, 1, 6) if word == 'user_abort' else (29, 2, 6) for word in hostmodel.CALLS if word not in ('request', 'elapse')},
+            'block_open': (5, 6), 'block_append': (20, 5, 6), 'block_finish': (20,), 'block_play': (29, 20, 18, 19)}
 ONES = b' 1' * hostmodel.MOST_NUMBERS
 UNREADABLE = (b'', b'write', b'write_ground', b'write_ground  ', b'Open    1', b'open   1', b'open    1 ', b'open    01', b'open    4294967296',
-              b'open 0   1', b'open AA   1', b'open a a a 1', b'open   ' + ONES + b' 1', b'elapse ' + b'00' * 257 + b'  ', b'elapse    1\r',
+              b'open 0   1', b'open AA   1', b'open a a a 1', b'open   ' + ONES + b' 1', b'elapse ' + b'00' * (hostmodel.MOST_OCTETS + 1) + b'  ', b'elapse    1\r',
               b'down   \0', b'downs   ', b'adsc_down   ', b'down   ' + ONES * 70)
-READABLE = (b'down   ', b'elapse   ', b'open   ' + ONES, b'elapse ' + b'00' * 256 + b'  ', b'request    6 0 1 1')
+READABLE = (b'down   ', b'elapse   ', b'open   ' + ONES, b'elapse ' + b'00' * hostmodel.MOST_OCTETS + b'  ', b'request    6 0 1 1')
 
 
 # ---- models with one rule changed
@@ -261,7 +264,51 @@ def changes():
     yield 'records: a refused call changes the answer', ruled(spoils=('out',))
 
 
-CHANGES = dict(changes())
+def logged(**fields):
+    """A rule of the log's model changed."""
+    return ruled(log=dataclasses.replace(RULES.log, **fields))
+
+
+def block_changes():
+    order, play = RULES.append_order, RULES.play_order
+    yield '5 before 20', ruled(append_order=(order[1], order[0], order[2]))
+    yield '6 before 5', ruled(append_order=(order[0], order[2], order[1]))
+    for judge in order:
+        yield f'append without {judge}', ruled(append_order=tuple(other for other in order if other != judge))
+    yield '20 of the octets before 29', ruled(play_order=(play[1], play[0], play[2]))
+    yield '29 last', ruled(play_order=(*play[1:], play[0]))
+    yield 'no 29', ruled(play_order=play[1:])
+    for room in (503, 505):
+        yield f'payloads of {room}', ruled(payload=room)
+    for kept in (128, 130, 255):
+        yield f'{kept} octets kept', ruled(kept_data=kept)
+    for size in (35, 37, 40):
+        yield f'settings of {size}', ruled(settings_octets=size)
+    for last in (RULES.last_block - 1, RULES.last_block + 1):
+        yield f'blocks up to {last} are opened', ruled(last_block=last)
+        yield f'blocks up to {last} are played', logged(last=last)
+    yield 'an append writes zeros', ruled(behind=lambda octets: bytes(len(octets)))
+    yield 'what stands behind stays', ruled(finished=lambda octets: octets)
+    yield 'checks without the 1', logged(check=lambda octets: (logmodel.check(octets) - 1) % 65521)
+    yield 'zeros of any length are no settings yet', ruled(none=lambda link: not any(link))
+    yield 'no record is no settings yet', ruled(none=lambda link: False)
+    for ground in RULES.log.grounds:
+        yield f'play without {ground[0]}', logged(grounds=tuple(other for other in RULES.log.grounds if other != ground))
+    yield '19 before 18', logged(grounds=(RULES.log.grounds[1], RULES.log.grounds[0], *RULES.log.grounds[2:]))
+    yield '20 before 19', logged(grounds=(RULES.log.grounds[0], *RULES.log.grounds[2:], RULES.log.grounds[1]))
+    for word in logmodel.KINDS:
+        if word not in logmodel.WITH_DATA:
+            yield f'{word} has data', logged(with_data=(*logmodel.WITH_DATA, word))
+    yield 'a refused call changes the block or the record', ruled(spoils=('link',))
+    yield 'a refused call changes the output', ruled(spoils=('out',))
+
+
+CHANGES = {**dict(changes()), **{f'blocks: {name}': change for name, change in block_changes()}}
+
+
+def part_of(line):
+    word = line.split(b' ')[0].decode()
+    return 'blocks' if word in hostmodel.BLOCKS else 'writing' if word.startswith('write') else 'records'
 
 
 def changed(line, rules):
@@ -278,7 +325,7 @@ def told_apart(rng, lines):
     rng.shuffle(plain)
     missed = []
     for name, change in CHANGES.items():
-        own = (pair for pair in plain if pair[0].startswith(b'write') == name.startswith('writing'))
+        own = (pair for pair in plain if part_of(pair[0]) == name.split(':')[0])
         with change() as rules:
             if all(changed(line, rules) == text for line, text in own):
                 missed.append(name)
@@ -314,7 +361,7 @@ def tally(lines, expected):
 def faults_of(numbers, met):
     faults = [f'no {word} was due with {number}' for word, known in REFUSALS.items() for number in (0, *known) if not numbers[word][number]]
     faults += [f'{word} was due with {number}' for word in numbers for number in numbers[word] if number not in (0, *REFUSALS[word])]
-    return faults + [f'not met: {name}' for name in hostlines.WRITING_DUE + hostlines.RECORDS_DUE if not met[name]]
+    return faults + [f'not met: {name}' for name in hostlines.WRITING_DUE + hostlines.RECORDS_DUE + hostlines.BLOCKS_DUE if not met[name]]
 
 
 def show_met(numbers, met):
@@ -332,7 +379,8 @@ def show_met(numbers, met):
             print(f'{name} where PC {how} it:', *(f'{n} {sum(met[f"PC {state}: {name} {n}"] for state in some)},' for n in hostlines.SECONDS))
     print('in force after a call:', *(f'{force} {sum(met[name] for name in met if f": {force} in force" in name)},' for force in hostlines.FORCES))
     print(f'edges and grounds met: writing {sum(met[name] > 0 for name in hostlines.WRITING_DUE)}/{len(hostlines.WRITING_DUE)},',
-          f'records {sum(met[name] > 0 for name in hostlines.RECORDS_DUE)}/{len(hostlines.RECORDS_DUE)}')
+          f'records {sum(met[name] > 0 for name in hostlines.RECORDS_DUE)}/{len(hostlines.RECORDS_DUE)},',
+          f'blocks {sum(met[name] > 0 for name in hostlines.BLOCKS_DUE)}/{len(hostlines.BLOCKS_DUE)}')
 
 
 def compare(program, lines, met, change):
@@ -362,6 +410,7 @@ def parse():
     parser = argparse.ArgumentParser(usage=__doc__.split('\n\n')[1])
     parser.add_argument('--writing', type=int, default=20000)
     parser.add_argument('--records', type=int, default=10000)
+    parser.add_argument('--blocks', type=int, default=2000)
     parser.add_argument('--seed', type=int, default=None)
     parser.add_argument('--change', choices=CHANGES, metavar='NAME')
     parser.add_argument('--self', action='store_true', dest='itself')
@@ -381,13 +430,14 @@ def main():
     rng = random.Random(seed)
     writing, met = hostlines.writing(rng, options.writing)
     records, more = hostlines.records(rng, options.records)
-    lines = writing + records + list(UNREADABLE + READABLE)
+    blocks, yet = hostlines.blocks(rng, options.blocks)
+    lines = writing + records + blocks + list(UNREADABLE + READABLE)
     assert all((hostmodel.parts(line) is None) == (line in UNREADABLE) for line in lines)
     print(f'seed {seed}' + (f', changed: {options.change}' if options.change else ''))
-    print(f'lines {len(lines)}: writing {len(writing)}, records {len(records)}')
+    print(f'lines {len(lines)}: writing {len(writing)}, records {len(records)}, blocks {len(blocks)}')
     if options.itself:
         return told_apart(rng, lines)
-    return compare(program, lines, met + more, options.change)
+    return compare(program, lines, met + more + yet, options.change)
 
 
 if __name__ == '__main__':

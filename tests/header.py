@@ -20,7 +20,7 @@ LENT = re.compile(r"&(mut )?(\w+)")
 CONSTANTS = {
     "refusals/src/lib.rt": {f"ADSC_{name}": name for name in (
         "NOT_PERMITTED", "CANNOT_OCCUR", "BAD_SETTING", "ELAPSE_OVER", "OUT_OF_RANGE", "NO_ROOM", "CUT_SHORT", "ABOVE_RANGE", "EXTENSION_SET", "NOT_CARRIED",
-        "LIST_OVER", "FILLING", "OCTETS_AFTER", "NO_ELEMENT", "INPUT_OVER", "SCRIPT_LINE", "BAD_RECORD")},
+        "LIST_OVER", "FILLING", "OCTETS_AFTER", "NO_ELEMENT", "INPUT_OVER", "SCRIPT_LINE", "CHECK_WRONG", "OUT_OF_TURN", "NOT_READABLE", "BAD_RECORD")},
     "host_numbers/src/places.rt": {**{f"ADSC_{name}": name for name in (
         *("A_" + n for n in ("KIND", "WHAT", "DETAIL", "COUNT", "ELEMENTS", "SOUTH", "LATITUDE", "LATITUDE_MINUTES", "LATITUDE_TENTHS", "WEST", "LONGITUDE",
                              "LONGITUDE_MINUTES", "LONGITUDE_TENTHS", "LEVEL", "YEAR", "MONTH", "DAY", "HAS_SECONDS", "HOURS", "MINUTES", "SECONDS", "ACCURACY",
@@ -39,6 +39,8 @@ CONSTANTS = {
     "pdu_events/src/elements.rt": {f"ADSC_ON_{name}": name for name in (
         "LATERAL_CHANGE", "RATE_CHANGE", "LEVEL_RANGE", "WAYPOINT_CHANGE", "AIR_SPEED_CHANGE", "GROUND_SPEED_CHANGE", "HEADING_CHANGE", "PROFILE_CHANGE",
         "MERIT_CHANGE", "TRACK_CHANGE", "LEVEL_CHANGE")},
+    "log/src/lib.rt": {"ADSC_BLOCK_OCTETS": "BLOCK", "ADSC_PAYLOAD_MOST": "ROOM", "ADSC_KEPT_MOST": "KEPT", "ADSC_BLOCKS_MOST": "BLOCKS"},
+    "log_play/src/record.rt": {"ADSC_SETTINGS_OCTETS": "SETTINGS"},
     "host_record/src/record.rt": {"ADSC_LINK_OCTETS": "RECORD"},
     "host_record/src/answer.rt": {"ADSC_ANSWER_OCTETS": "ANSWER"},
     "ground_answer/src/sent.rt": {"ADSC_SENT_MOST": "SENT_MOST"},
@@ -54,6 +56,12 @@ CONSTANTS = {
         **{f"ADSC_{module}_{state}": state for module in ("EC", "PC") for state in ("START_PENDING", "PENDING", "ACTIVE", "CANCEL")},
         "ADSC_DC_PENDING": "DC_PENDING", "ADSC_DC_ACTIVE": "DC_ACTIVE", "ADSC_EM_ACTIVE": "EM_ACTIVE", "ADSC_EM_MODIFY": "MODIFY"},
 }
+
+# A kind of call, which counts from 0, and the script word that it is, whose places count from 1.
+WORDS = {"bench_line/src/line.rt": {
+    "ADSC_CALL_REQUEST": "REQ", "ADSC_CALL_USER_ABORT": "USER_ABORT", "ADSC_CALL_ELAPSE": "ELAPSE", "ADSC_CALL_START_CONFIRM": "START_CNF",
+    "ADSC_CALL_START_REJECTED": "START_REJ", "ADSC_CALL_DATA": "DATA", "ADSC_CALL_END_CONFIRM": "END_CNF", "ADSC_CALL_PEER_ABORT": "PEER_ABORT",
+    "ADSC_CALL_AIR_ABORT": "AIR_ABORT", "ADSC_CALL_DOWN": "DOWN"}}
 
 # Numbers of refusals that no name has again (02, L5).
 RETIRED = (11,)
@@ -138,6 +146,9 @@ def numbers_due():
     for path, names in CONSTANTS.items():
         values = dict(re.findall(r"pub(?:\(crate\))? const (\w+): \w+ = (\d+);", crate(path)))
         due += [(name, int(values[const]), f"{path}, {const}") for name, const in names.items()]
+    for path, names in WORDS.items():
+        values = dict(re.findall(r"const (\w+): usize = (\d+);", crate(path)))
+        due += [(name, int(values[const]) - 1, f"{path}, {const}") for name, const in names.items()]
     for path, (enum, names) in KINDS.items():
         values = {variant: int(n) for n, variant in re.findall(rf"(\d+) => {enum}::(\w+)", crate(path))}
         due += [(name, values[variant], f"{path}, {enum}::{variant}") for name, variant in names.items()]

@@ -3,7 +3,7 @@
  * Every buffer stands against a page that cannot be touched, so that a call that reads too far ends the test. After each call:
  *   - refused: every buffer and what stands round it is as it was; the refusal is one that adsc.h names for the function; 6 is the last of them;
  *   - accepted: nothing but the result's place has changed, the room was enough, the record is taken by the next call, its intervals and seconds are those
- *     of its states, octets and numbers go both ways.
+ *     of its states, octets and numbers go both ways, a block of the log holds what was appended behind what it had.
  * At the end every function has been accepted, and refused with each number that adsc.h names. SPOIL makes a mistake of its own, which must be found. */
 #define _DEFAULT_SOURCE
 #include <inttypes.h>
@@ -66,8 +66,9 @@ struct lent {
 
 static struct lent settings = {.name = "settings", .width = 4}, link_ = {.name = "link", .width = 1}, answer = {.name = "answer", .width = 1},
                    octets = {.name = "octets", .width = 1}, numbers = {.name = "numbers", .width = 4}, list = {.name = "list", .width = 1},
-                   out = {.name = "out", .width = 1}, written = {.name = "written", .width = sizeof(size_t)};
-static uint32_t seconds;
+                   out = {.name = "out", .width = 1}, written = {.name = "written", .width = sizeof(size_t)}, block = {.name = "block", .width = 1};
+static uint32_t seconds, number;
+static uint8_t kind;
 static size_t page_octets;
 
 static uint32_t *words(struct lent *b)
@@ -272,11 +273,44 @@ static void lend_octets(bool air)
         memcpy(octets.at, some, n);
 }
 
+/* A block of the log with some records, most of them such that any link takes them; the first is the settings where there is no link yet. */
+static void fill(uint8_t *b, bool first)
+{
+    uint8_t some[ADSC_KEPT_MOST + 8];
+    adsc_block_open(b, ADSC_BLOCK_OCTETS, number < ADSC_BLOCKS_MOST ? number : 0);
+    if (first)
+        adsc_block_append(b, ADSC_BLOCK_OCTETS, ADSC_CALL_SETTINGS, 0, live, ADSC_SETTINGS_OCTETS);
+    for (uint32_t n = chance(one_in(4) ? 200 : 5); n > 0; n--) {
+        scatter(some, sizeof some);
+        if (one_in(60))
+            adsc_block_append(b, ADSC_BLOCK_OCTETS, ADSC_CALL_DATA, 0, some, chance(sizeof some));
+        else
+            adsc_block_append(b, ADSC_BLOCK_OCTETS, ADSC_CALL_ELAPSE, one_in(20) ? chance(3) : 0, some, 0);
+    }
+    if (!one_in(8))
+        adsc_block_finish(b, ADSC_BLOCK_OCTETS);
+}
+
+static void lend_block(bool first)
+{
+    uint32_t how = chance(10);
+    uint8_t whole[ADSC_BLOCK_OCTETS];
+    number = one_in(8) ? chance(UINT32_MAX) : chance(ADSC_BLOCKS_MOST);
+    fill(whole, first);
+    lend(&block, how == 0 ? chance(2 * LONGEST) : ADSC_BLOCK_OCTETS + (how == 1 ? chance(8) : 0));
+    if (how >= 2)                           /* else octets of any kind */
+        memcpy(block.at, whole, sizeof whole);
+    if (how == 2)
+        block.at[one_in(2) ? chance(6) : chance(sizeof whole)] ^= (uint8_t)(1 + chance(255));
+    if (how == 3)
+        number += 1 + chance(3);
+}
+
 /* ---- the functions: what each is lent, how many octets of it an accepted call changes, and its refusals by adsc.h */
 
 enum which {
     OPEN, REQUEST, USER_ABORT, ELAPSE, START_CONFIRM, START_REJECTED, DATA, END_CONFIRM, PEER_ABORT, AIR_ABORT, DOWN,
-    READ_AIR, READ_GROUND, WRITE_AIR, WRITE_GROUND, FUNCTIONS
+    BLOCK_OPEN, BLOCK_APPEND, BLOCK_FINISH, BLOCK_PLAY, READ_AIR, READ_GROUND, WRITE_AIR, WRITE_GROUND, FUNCTIONS
 };
 
 struct used { struct lent *b; size_t changes; };
@@ -297,6 +331,10 @@ static const struct function {
     {"adsc_peer_abort", {{&link_, ADSC_LINK_OCTETS}, {&answer, ADSC_ANSWER_OCTETS}}, {29, 2, 6}},
     {"adsc_air_abort", {{&link_, ADSC_LINK_OCTETS}, {&octets, 0}, {&answer, ADSC_ANSWER_OCTETS}}, {29, 2, 6}},
     {"adsc_down", {{&link_, ADSC_LINK_OCTETS}, {&answer, ADSC_ANSWER_OCTETS}}, {29, 2, 6}},
+    {"adsc_block_open", {{&block, ADSC_BLOCK_OCTETS}}, {5, 6}},
+    {"adsc_block_append", {{&block, ADSC_BLOCK_OCTETS}, {&octets, 0}}, {20, 5, 6}},
+    {"adsc_block_finish", {{&block, ADSC_BLOCK_OCTETS}}, {20}},
+    {"adsc_block_play", {{&link_, ADSC_LINK_OCTETS}, {&block, 0}}, {29, 20, 18, 19}},
     {"adsc_read_air", {{&octets, 0}, {&numbers, 4 * ADSC_AIR_NUMBERS}, {&list, ADSC_LIST_OCTETS}}, {7, 8, 9, 10, 12, 13, 14, 16, 6}},
     {"adsc_read_ground", {{&octets, 0}, {&numbers, 4 * ADSC_GROUND_NUMBERS}}, {7, 8, 9, 10, 13, 14, 15, 16, 6}},
     {"adsc_write_air", {{&numbers, 0}, {&list, 0}, {&out, 0}, {&written, sizeof(size_t)}}, {5, 10, 12, 6}},
@@ -304,10 +342,26 @@ static const struct function {
 };
 #define EACH_USED(u, f) for (const struct used *u = functions[f].used; u < functions[f].used + USED && u->b; u++)
 
+/* Whether the link is one that has no settings yet. */
+static bool zeros(void)
+{
+    static const uint8_t none[ADSC_LINK_OCTETS];
+    return link_.length == sizeof none && memcmp(link_.at, none, sizeof none) == 0;
+}
+
+static void lend_any_link(enum which f)
+{
+    lend_link(f == OPEN);
+    if (f == BLOCK_PLAY && link_.length == ADSC_LINK_OCTETS && one_in(3)) {
+        memset(link_.at, 0, ADSC_LINK_OCTETS);
+        random_record = false;
+    }
+}
+
 static void lend_one(enum which f, struct lent *b)
 {
     if (b == &link_)
-        lend_link(f == OPEN);
+        lend_any_link(f);
     else if (b == &settings)
         lend_settings();
     else if (b == &octets)
@@ -318,6 +372,8 @@ static void lend_one(enum which f, struct lent *b)
         lend_list();
     else if (b == &answer)
         lend(&answer, mostly(ADSC_ANSWER_OCTETS));
+    else if (b == &block)
+        lend_block(f == BLOCK_PLAY && zeros());
     else if (b == &out)
         lend(&out, one_in(2) ? chance(LONGEST + 1) : chance(24));
     else
@@ -329,6 +385,9 @@ static void lend_all(enum which f)
 {
     random_record = false;
     seconds = one_in(8) ? chance(UINT32_MAX) : chance(100);
+    kind = one_in(8) ? (uint8_t)chance(256) : one_in(2) ? ADSC_CALL_DATA : (uint8_t)chance(ADSC_CALL_DOWN + 1);
+    if (f == BLOCK_APPEND && kind != ADSC_CALL_ELAPSE && !one_in(8))
+        seconds = 0;
     EACH_USED(u, f)
         lend_one(f, u->b);
 }
@@ -350,6 +409,10 @@ static uint8_t perform(enum which f)
     case PEER_ABORT: return adsc_peer_abort(l, k, a, m);
     case AIR_ABORT: return adsc_air_abort(l, k, o, n, a, m);
     case DOWN: return adsc_down(l, k, a, m);
+    case BLOCK_OPEN: return adsc_block_open(block.at, block.length, number);
+    case BLOCK_APPEND: return adsc_block_append(block.at, block.length, kind, seconds, o, n);
+    case BLOCK_FINISH: return adsc_block_finish(block.at, block.length);
+    case BLOCK_PLAY: return adsc_block_play(l, k, block.at, block.length, number);
     case READ_AIR: return adsc_read_air(o, n, words(&numbers), numbers.length, list.at, list.length);
     case READ_GROUND: return adsc_read_ground(o, n, words(&numbers), numbers.length);
     case WRITE_AIR: return adsc_write_air(words(&numbers), numbers.length, list.at, list.length, out.at, out.length, w);
@@ -387,6 +450,22 @@ static void check_refused(enum which f, uint8_t refusal)
         must(unchanged(u->b, 0), f, "refused with %d, and %s changed", refusal, u->b->name);
 }
 
+/* The block as it was before the call, how many octets of data a record keeps, and whether it has room. */
+static const uint8_t *block_before(void)
+{
+    return block.before + (block.at - block.window);
+}
+
+static size_t data_kept(void)
+{
+    return octets.length < ADSC_KEPT_MOST ? octets.length : ADSC_KEPT_MOST;
+}
+
+static bool has_room(void)
+{
+    return block.length == ADSC_BLOCK_OCTETS && adsc_block_end(block_before()) + 6 + data_kept() <= adsc_block_first() + ADSC_PAYLOAD_MOST;
+}
+
 /* Where nothing but the room was wrong, it was; and the other way round. What writing needs is known by writing again. */
 static void check_room(enum which f, uint8_t refusal)
 {
@@ -401,6 +480,10 @@ static void check_room(enum which f, uint8_t refusal)
         enough = enough && u->b->length * u->b->width >= u->changes;
     if (f == OPEN)
         enough = link_.length == ADSC_LINK_OCTETS;
+    if (f == BLOCK_OPEN)
+        enough = block.length == ADSC_BLOCK_OCTETS;
+    if (f == BLOCK_APPEND)
+        enough = has_room();
     must(refusal != ADSC_OK || enough, f, "accepted without the room");
     must(refusal != ADSC_NO_ROOM || !enough, f, "6 with the room");
 }
@@ -413,6 +496,8 @@ static void check_last(enum which f)
             lend(&out, ADSC_PDU_OCTETS);
         else if (u->changes > 0 && (u->b != &link_ || f == OPEN))
             lend(u->b, u->changes / u->b->width);
+    if (f == BLOCK_APPEND)
+        adsc_block_open(block.at, block.length, 0);
     must(perform(f) == ADSC_OK, f, "6, and with the room it is refused too");
 }
 
@@ -480,6 +565,36 @@ static void check_record(enum which f)
         memcpy(live, was, sizeof live);
 }
 
+/* The new record of a block that was appended to stands behind those that it had, and every other octet stays. */
+static void check_appended(enum which f)
+{
+    const uint8_t *was = block_before(), *now = block.at;
+    size_t at = adsc_block_end(was), next = adsc_record_next(now, at);
+    must(adsc_record_kind(now, at) == kind && adsc_record_seconds(now, at) == seconds && adsc_record_length(now, at) == data_kept()
+             && memcmp(adsc_record_data(now, at), octets.at, data_kept()) == 0 && next == adsc_block_end(now), f, "another record");
+    must(memcmp(now, was, 4) == 0 && memcmp(now + adsc_block_first(), was + adsc_block_first(), at - adsc_block_first()) == 0
+             && memcmp(now + next, was + next, ADSC_BLOCK_OCTETS - next) == 0, f, "other octets changed");
+}
+
+/* A finished block has the number and the records that it had, and zeros behind; play takes its check. */
+static void check_finished(enum which f)
+{
+    uint8_t fresh[ADSC_LINK_OCTETS] = {0};
+    const uint8_t *was = block_before(), *now = block.at;
+    size_t end = adsc_block_end(was);
+    must(memcmp(now, was, end) == 0, f, "other records");
+    for (size_t i = end; i < ADSC_BLOCK_OCTETS - 2; i++)
+        must(now[i] == 0, f, "octet %d behind the payload", (int)i);
+    must(adsc_block_play(fresh, sizeof fresh, now, ADSC_BLOCK_OCTETS, adsc_block_number(now)) != ADSC_CHECK_WRONG, f, "the check is wrong");
+}
+
+static void check_opened(enum which f)
+{
+    must(adsc_block_number(block.at) == number, f, "another number");
+    for (size_t i = 4; i < ADSC_BLOCK_OCTETS; i++)
+        must(block.at[i] == 0, f, "octet %d is not zero", (int)i);
+}
+
 /* A periodic contract that sends 5 minutes, the default: the interval is the 8 bits behind 8 presence bits. */
 static bool sends_default(const uint8_t *at, size_t n)
 {
@@ -532,6 +647,8 @@ static uint8_t spoilt(enum which f, uint8_t result)
         b->at[ADSC_LINK_LI] = 4;
     if (strcmp(spoil, "interval") == 0 && result == ADSC_OK && b == &link_ && b->at[ADSC_LINK_PC] != ADSC_PC_IDLE)
         b->at[ADSC_LINK_FORCE + 3] ^= 1;
+    if (strcmp(spoil, "block") == 0 && result == ADSC_OK && b == &block)
+        b->at[ADSC_BLOCK_OCTETS - 1] ^= 1;
     if (strcmp(spoil, "result") == 0 && result == ADSC_NO_ROOM)
         return ADSC_SCRIPT_LINE;
     if (strcmp(spoil, "room") == 0 && result == ADSC_OK)
@@ -570,10 +687,16 @@ static void one_call(void)
         check_answer(f);
         check_started(f);
     }
-    if (f <= DOWN) {
+    if (f <= DOWN || (f == BLOCK_PLAY && !zeros())) {
         check_seconds(f);
         check_record(f);
     }
+    if (f == BLOCK_OPEN)
+        check_opened(f);
+    if (f == BLOCK_APPEND)
+        check_appended(f);
+    if (f == BLOCK_FINISH)
+        check_finished(f);
     if (f == READ_AIR || f == READ_GROUND)
         check_read(f);
     if (f >= WRITE_AIR)
@@ -603,9 +726,9 @@ static void tell(void)
 
 int main(int n, char **words)
 {
-    struct lent *all[] = {&settings, &link_, &answer, &octets, &numbers, &list, &out, &written};
+    struct lent *all[] = {&settings, &link_, &answer, &octets, &numbers, &list, &out, &written, &block};
     if (n < 3) {
-        fprintf(stderr, "host_any SEED CALLS [octet|guard|record|interval|result|room|past]\n");
+        fprintf(stderr, "host_any SEED CALLS [octet|guard|record|interval|block|result|room|past]\n");
         return 2;
     }
     seed = strtoull(words[1], NULL, 10);

@@ -1,8 +1,8 @@
-"""Lines for the program hostcall: writing from numbers, and calls on link records good and one step off.
+"""Lines for the program hostcall: writing from numbers, calls on link records good and one step off, and blocks of the flight log.
 
-    writing(rng, count) -> lines, what they met        records(rng, count) -> lines, what they met
+    writing(rng, count) -> lines, what they met        records(rng, count), blocks(rng, count): the same
 
-What is met is a Counter of names; WRITING_DUE and RECORDS_DUE say which names have to be in it.
+What is met is a Counter of names; WRITING_DUE, RECORDS_DUE and BLOCKS_DUE say which names have to be in it.
 
     moved(line, answer) -> the names of what a call made of the intervals, for the same Counter
 """
@@ -12,6 +12,8 @@ import itertools
 
 import hostmodel
 import linkmodel
+import logmaking
+import logmodel
 from hostmodel import AIR, ANSWER_OCTETS, CALLS, GROUND, INTERVAL_MOST, INTERVALS, LINK_OCTETS, STATES, Calling, Record, grounds, link_of, spelt, taken_apart, written
 from linkscripts import Pool
 from percoder import RANGES
@@ -550,7 +552,180 @@ def moved(line, answer):
             yield f'{was} to {now}: {name} in force' + (' in an emergency' if before.states[EM] else '')
 
 
+# ---- blocks of the flight log
+
+BLOCK_SIZES = (0, 1, 510, 511, 513, 520)
+BLOCK_NUMBERS = (0, 1, 255, 256, 65536, logmodel.LAST - 1, logmodel.LAST, logmodel.LAST + 1, 1 << 25, TOP - 1)
+KINDS_GIVEN = (*range(13), 128, 255)
+DATA_SIZES = (0, 1, 2, 35, 36, 37, 127, 128, 129, 130, 131, 255, 256, 300)
+# How many octets of room are left where the record is put, more than it needs.
+ROOMS = (-6, -1, 0, 1, 100)
+
+
+class Blocks:
+    """Lines for block_open, block_append, block_finish and block_play."""
+
+    def __init__(self, rng):
+        self.rng, self.met, self.lines, self.scripts = rng, collections.Counter(), [], logmaking.Scripts(rng)
+
+    def add(self, name, word, link, octets, numbers):
+        out = self.rng.randbytes(self.rng.choice((0, 0, 4)))
+        number = hostmodel.call(word, link, octets, out, list(numbers)).number
+        self.met.update((name, f'{word} {number}', f'{name}: {"refused" if number else "accepted"}'))
+        self.lines.append(line_of(word, link, octets, out, numbers))
+
+    def opening(self):
+        for number in BLOCK_NUMBERS:
+            self.add(f'open {number}', 'block_open', self.rng.randbytes(512), b'', [number])
+            for size in BLOCK_SIZES:
+                self.add(f'open of {size}', 'block_open', self.rng.randbytes(size), b'', [number])
+        self.add('open without a number', 'block_open', self.rng.randbytes(512), b'', [])
+
+    # A record more
+
+    def block(self, used):
+        """A block whose payload has so many octets of any kind; behind it zeros or octets of any kind, and a check that is right or not."""
+        block = logmodel.block_of(self.rng.choice((0, 1, 77, logmodel.LAST)), self.rng.randbytes(used))
+        return self.rng.choice((block, block[:510] + bytes(2), block[:6 + used] + self.rng.randbytes(506 - used)))
+
+    def fields(self, kind):
+        """Seconds and data that the call of a kind has."""
+        word = logmodel.KINDS[kind] if kind < len(logmodel.KINDS) else None
+        sizes = (36,) if word == 'set' else DATA_SIZES if word in logmodel.WITH_DATA else (0,)
+        return self.rng.choice((0, 1, 86400, TOP - 1)) if word == 'elapse' else 0, self.rng.randbytes(self.rng.choice(sizes))
+
+    def append(self, name, kind, seconds, data, room=None, spoil=None):
+        size = 6 + min(len(data), logmodel.KEPT)
+        used = max(0, min(504, 504 - size - (self.rng.choice((0, 1, 50, 300)) if room is None else room)))
+        block = self.block(used)
+        self.add(name, 'block_append', spoil(block) if spoil else block, data, [kind, seconds])
+
+    def spoils(self):
+        """Blocks that are no open ones, and such at the edges."""
+        for size in BLOCK_SIZES:
+            yield f'{size} octets', lambda block, size=size: (block + bytes(8))[:size]
+        for length in (505, 510, 1000, 65535):
+            yield f'length {length}', lambda block, length=length: block[:4] + length.to_bytes(2, 'big') + block[6:]
+        for number in (logmodel.LAST, logmodel.LAST + 1, TOP - 1):
+            yield f'number {number}', lambda block, number=number: number.to_bytes(4, 'big') + block[4:]
+
+    def appending(self):
+        for kind in KINDS_GIVEN:
+            seconds, data = self.fields(kind)
+            self.append(f'kind {kind}', kind, seconds, data)
+            self.append(f'kind {kind} with seconds', kind, self.rng.choice((1, 1 << 24)), data)
+            self.append(f'kind {kind} with data', kind, 0, self.rng.randbytes(self.rng.choice(DATA_SIZES[1:])))
+        for kind, size in itertools.product((0, 1, 4, 6, 9), DATA_SIZES):
+            self.append(f'kind {kind}, {size} octets', kind, 0, self.rng.randbytes(size))
+        for kind, room in itertools.product(range(11), ROOMS):
+            self.append(f'room {room}', kind, *self.fields(kind), room)
+            self.append(f'room {room}, out of order', kind, *(1, b'') if kind != 3 else (0, b'x'), room)
+        for name, spoil in self.spoils():
+            for kind, seconds, data in ((3, 5, b''), (6, 0, b'abc'), (6, 1, b'abc'), (11, 0, b'')):
+                self.append(name, kind, seconds, data, self.rng.choice((None, None, -1)) if kind == 6 else None, spoil)
+            self.add(f'finish: {name}', 'block_finish', spoil(self.block(self.rng.choice((0, 6, 300)))), b'', [])
+        for used in (0, 1, 6, 42, 300, 503, 504):
+            self.add('finish', 'block_finish', self.block(used), b'', [])
+            self.add('finish again', 'block_finish', logmodel.block_of(3, self.rng.randbytes(used)), b'', [])
+
+    # Play
+
+    def logs(self):
+        """A log, and the record before each of its blocks."""
+        log = b''
+        while not log:
+            log = logmodel.log(self.scripts.script())
+        return log
+
+    def walk(self, name, log):
+        """Each block of a log on the record that the blocks before it have left."""
+        link = bytes(LINK_OCTETS)
+        for number, at in enumerate(range(0, len(log), 512)):
+            block = log[at:at + 512]
+            self.add(name, 'block_play', link, block, [number])
+            after = hostmodel.call('block_play', link, block, b'', [number])
+            if after.number:
+                return
+            link = after.link
+
+    def keeping(self):
+        """The first block of a log kept anew: each call on what the one before has left."""
+        first, at = self.logs()[:512], 6
+        block = hostmodel.call('block_open', bytes(512), b'', b'', [0]).link
+        while at < 6 + int.from_bytes(first[4:6], 'big'):
+            kind, seconds, data = first[at], int.from_bytes(first[at + 1:at + 5], 'big'), first[at + 6:at + 6 + first[at + 5]]
+            self.add('keep', 'block_append', block, data, [kind, seconds])
+            block = hostmodel.call('block_append', block, data, b'', [kind, seconds]).link
+            at += 6 + len(data)
+        self.add('keep', 'block_finish', block, b'', [])
+        self.met['kept as the log has it'] += hostmodel.call('block_finish', block, b'', b'', []).link == first
+
+    def orders(self):
+        """Two grounds of 18, 19 and 20 at once, and data that is too long where its call would be accepted."""
+        zeros, first = bytes(LINK_OCTETS), logmodel.block_of(0, logmaking.spelt(3, 1))
+        self.add('play: 18 before 19', 'block_play', zeros, first[:511] + bytes([first[511] ^ 1]), [1])
+        self.add('play: 19 before 20', 'block_play', zeros, first, [1])
+        calls = logmaking.spelt(0, 0, (360).to_bytes(4, 'big') * 9) + logmaking.spelt(1, 0, b'\x30\x00')
+        for size in (129, 130):
+            self.add(f'play: {size} octets', 'block_play', zeros, logmodel.block_of(0, calls + logmaking.spelt(4, 0, bytes(size))), [0])
+
+    def playing(self, records):
+        log = self.logs()
+        self.walk('play', log)
+        for name in logmaking.DAMAGES:
+            damaged = logmaking.damaged(self.rng, name, log)
+            if damaged:
+                self.walk(f'play: {name}', damaged)
+        self.walk('play: two grounds', logmaking.both(self.rng, log))
+        self.walk('play: an octet changed', logmaking.octet_changed(self.rng, log, self.rng.randrange(len(log))))
+        first = log[:512]
+        for size in BLOCK_SIZES:
+            self.add(f'play of {size}', 'block_play', bytes(LINK_OCTETS), (first + bytes(8))[:size], [0])
+        for number in BLOCK_NUMBERS:
+            block = logmodel.block_of(number, first[6:6 + int.from_bytes(first[4:6], 'big')])
+            self.add(f'play {number}', 'block_play', bytes(LINK_OCTETS), block, [number])
+            self.add(f'play {number} for another', 'block_play', bytes(LINK_OCTETS), block, [self.rng.choice([n for n in BLOCK_NUMBERS if n != number])])
+        for size in (0, 35, 36, 37, 40):
+            settings = ((86400).to_bytes(4, 'big') * 10)[:size]
+            self.add(f'play settings of {size}', 'block_play', bytes(LINK_OCTETS), logmodel.block_of(0, logmaking.spelt(0, 0, settings)), [0])
+        for name, record in records:
+            block = self.rng.choice((logmodel.block_of(1, b''), first[:511], logmodel.block_of(1, logmaking.spelt(3, 0)), logmodel.block_of(1, logmaking.spelt(3, 1)), first))
+            self.add(f'play on {"a good one" if not grounds(record) else "another"}', 'block_play', record, block, [1])
+        self.add('play on nothing', 'block_play', b'', first, [0])
+        for size in (84, 86):
+            self.add('play on other zeros', 'block_play', bytes(size), first, [0])
+        self.add('play of no record', 'block_play', bytes(LINK_OCTETS), logmodel.block_of(0, b''), [0])
+
+    def all(self, count):
+        while len(self.lines) < count:
+            self.opening()
+            self.appending()
+            self.playing(list(Records(self.rng).steps())[::9])
+            self.keeping()
+            self.orders()
+        return self.lines, self.met
+
+
+def blocks(rng, count):
+    return Blocks(rng).all(count)
+
+
 # ---- what has to be met
+
+BLOCKS_DUE = ([f'{word} {number}' for word, numbers in (('block_open', (0, 5, 6)), ('block_append', (0, 20, 5, 6)), ('block_finish', (0, 20)),
+                                                            ('block_play', (0, 29, 20, 18, 19)))
+               for number in numbers]
+              + [f'room {room}: {"refused" if room < 0 else "accepted"}' for room in ROOMS] + [f'room {room}, out of order: refused' for room in ROOMS]
+              + [f'kind {kind}: {"accepted" if kind <= 10 else "refused"}' for kind in KINDS_GIVEN] + ['kept as the log has it', 'play: 129 octets: accepted', 'play: 130 octets: refused']
+              + [f'kind {kind} with seconds: {"accepted" if kind == 3 else "refused"}' for kind in KINDS_GIVEN]
+              + [f'play: {name}: refused' for name in logmaking.WRONG if name != 'no records'] + [f'play: {name}: accepted' for name in logmaking.GOOD]
+              + [f'play {number}: {"accepted" if number <= logmodel.LAST else "refused"}' for number in BLOCK_NUMBERS]
+              + [f'play {number} for another: refused' for number in BLOCK_NUMBERS]
+              + [f'play settings of {size}: {"accepted" if size == 36 else "refused"}' for size in (0, 35, 36, 37, 40)]
+              + [f'{what}number {number}: {"accepted" if number == logmodel.LAST else "refused"}' for what in ('', 'finish: ')
+                 for number in (logmodel.LAST, logmodel.LAST + 1, TOP - 1)]
+              + ['finish: accepted', 'finish again: accepted', 'play: accepted', 'play on a good one: accepted', 'play on another: refused',
+                 'play on nothing: refused', 'play on other zeros: refused', 'play of no record: accepted'])
 
 RECORDS_DUE = ([f'{timer} {how}: setting {setting}' for timer in TIMERS for how in ('runs', 'rests') for setting in SETTINGS]
                + [f'{timer} {how}: {edge} left' for timer in TIMERS for how in ('runs', 'rests') for edge in EDGES]

@@ -1,11 +1,14 @@
 """A model of what include/adsc.h declares, on the lent buffers of a host, written from that header and pages 01 and 02 alone.
 
-It shares nothing with the box it is compared with: PDUs are those of percoder.py, the link is that of linkmodel.py.
+It shares nothing with the box it is compared with: PDUs are those of percoder.py, the link is that of linkmodel.py, blocks of the flight log are those of
+logmodel.py.
 
     answer(line) -> the text that is due to a line of the program hostcall:
 
 `WORD LINK OCTETS OUT N N ..` calls adsc_WORD on buffers of these octets (each field may be empty, its space stays) and numbers, and is
-answered with `NUMBER LENGTH LINK OUT`: the function's result, the length of a write (999 before the call), both lent buffers after it.
+answered with `NUMBER LENGTH LINK OUT`: the function's result, the length of a write (999 before the call), both lent buffers after it. For block_open,
+block_append and block_finish LINK is the block, and the numbers are its number, kind and seconds, and none; a kind is one octet, of a larger number the lowest.
+For block_play OCTETS is the block, and the number is the one it is to have.
 """
 
 import dataclasses
@@ -14,6 +17,7 @@ import types
 from collections import namedtuple
 
 import linkmodel
+import logmodel
 import percoder
 from percoder import PRESENCE, TABLE
 
@@ -50,13 +54,18 @@ ACTIONS = {'start-req': 1, 'data-req': 2, 'end-req': 3, 'abort-req': 4, 'ind': 5
 # The functions, and what the calls on a record are called in a script.
 CALLS = {'request': 'req', 'user_abort': 'user-abort', 'elapse': 'elapse', 'start_confirm': 'start-cnf', 'start_rejected': 'start-rej',
          'data': 'data', 'end_confirm': 'end-cnf', 'peer_abort': 'peer-abort', 'air_abort': 'air-abort', 'down': 'down'}
-WORDS = ('write_ground', 'write_air', 'open', *CALLS)
-HEX = '((?:[0-9a-f]{2}){0,256})'
+BLOCKS = ('block_open', 'block_append', 'block_finish', 'block_play')
+WORDS = ('write_ground', 'write_air', 'open', *CALLS, *BLOCKS)
+MOST_OCTETS = 520
+HEX = f'((?:[0-9a-f]{{2}}){{0,{MOST_OCTETS}}})'
 MOST_NUMBERS = 47
 LINE = re.compile(f'({"|".join(WORDS)}) {HEX} {HEX} {HEX}((?: {linkmodel.NUMBER}){{0,{MOST_NUMBERS}}})')
 
 # "Order. Calls: .. 29, 4, 1 or 2, then fields", and "6 last" (adsc.h). Each is a function of Calling.
 ORDER = ('bad_record', 'long_elapse', 'not_listed', 'bad_fields', 'no_room')
+# Of adsc_block_append and adsc_block_play, as adsc.h has them: functions of Appending and Playing.
+APPEND_ORDER = ('not_open', 'bad_fields', 'no_room')
+PLAY_ORDER = ('bad_record', 'cut_short', 'judged')
 
 
 @dataclasses.dataclass(frozen=True)
@@ -78,6 +87,17 @@ class Rules:
     sizes: tuple = (LINK_OCTETS,)
     watch: tuple = linkmodel.RULES.watch
     order: tuple = ORDER
+    append_order: tuple = APPEND_ORDER
+    play_order: tuple = PLAY_ORDER
+    block: int = logmodel.BLOCK         # octets of a block
+    payload: int = logmodel.ROOM
+    kept_data: int = logmodel.KEPT
+    last_block: int = logmodel.LAST
+    settings_octets: int = logmodel.SETTINGS
+    behind: callable = lambda octets: octets                    # what stands behind the record after an append,
+    finished: callable = lambda octets: bytes(len(octets))      # and behind the payload after a finish
+    none: callable = lambda link: link == bytes(LINK_OCTETS)    # "A link record of 85 zeros is one that has no settings yet"
+    log: logmodel.Rules = logmodel.RULES
     room: int = ANSWER_OCTETS
     writer: type = percoder.Writer
     signed: tuple = SIGNED
@@ -352,6 +372,99 @@ def opened(link, out, numbers):
     return After(0, BEFORE, spelt(Record(numbers, [0] * TIMERS, [0] * len(STATES), [0] * len(INTERVALS))), out)
 
 
+# ---- the flight log
+
+def block_opened(block, out, numbers, rules):
+    number = numbers[0] if numbers else 0
+    if number > rules.last_block:
+        return After(5, BEFORE, block, out)
+    if len(block) != rules.block:
+        return After(6, BEFORE, block, out)
+    return After(0, BEFORE, number.to_bytes(4, 'big') + bytes(508), out)
+
+
+def not_open(block, rules):
+    """"20 (a block that is not of 512 octets, or whose number or payload length is none that adsc_block_open and this function make)" """
+    if len(block) != rules.block:
+        return 20
+    return 20 if int.from_bytes(block[:4], 'big') > rules.last_block or int.from_bytes(block[4:6], 'big') > rules.payload else 0
+
+
+class Appending:
+    """A record behind those of a block. Each refusal judges alone: their order is a table."""
+
+    def __init__(self, block, data, out, numbers, rules):
+        self.block, self.data, self.out, self.rules = block, data, out, rules
+        self.kind, self.seconds = (*numbers, 0, 0)[:2]
+        self.kind %= 256
+        self.used = int.from_bytes(block[4:6], 'big')
+        self.size = logmodel.RECORD_HEAD + len(data[:rules.kept_data])
+
+    def not_open(self):
+        return not_open(self.block, self.rules)
+
+    def bad_fields(self):
+        """"5 (a kind over ADSC_CALL_DOWN; seconds not 0, where the call is no elapse; data, where the call has none; settings that are not
+        ADSC_SETTINGS_OCTETS octets)" """
+        word = named(self.rules.log.kinds, self.kind)
+        unused = self.seconds and word != 'elapse' or self.data and word not in self.rules.log.with_data
+        wrong = word == 'set' and len(self.data) != self.rules.settings_octets
+        return 5 if word == 'nothing' or unused or wrong else 0
+
+    def no_room(self):
+        return 6 if self.used + self.size > self.rules.payload else 0
+
+    def refusals(self):
+        return [number for number in (getattr(self, judge)() for judge in self.rules.append_order) if number]
+
+    def made(self):
+        refused = self.refusals()
+        if refused:
+            return After(refused[0], BEFORE, self.rules.left_as('link', self.block), self.rules.left_as('out', self.out))
+        data = self.data[:self.rules.kept_data]
+        record = bytes([self.kind]) + self.seconds.to_bytes(4, 'big') + bytes([len(data)]) + data
+        payload = self.block[6:6 + self.used] + record
+        octets = self.block[:4] + len(payload).to_bytes(2, 'big') + payload + self.rules.behind(self.block[6 + len(payload):510])
+        return After(0, BEFORE, octets + self.block[510:], self.out)
+
+
+def block_finished(block, out, rules):
+    """"Zeros behind the payload, and the check." """
+    if not_open(block, rules):
+        return After(20, BEFORE, rules.left_as('link', block), rules.left_as('out', out))
+    end = 6 + int.from_bytes(block[4:6], 'big')
+    octets = block[:end] + rules.finished(block[end:510])
+    return After(0, BEFORE, octets + rules.log.check(octets).to_bytes(2, 'big'), out)
+
+
+class Playing:
+    """A block judged and played on a record."""
+
+    def __init__(self, link, block, out, numbers, rules):
+        self.link, self.block, self.out, self.rules = link, block, out, rules
+        self.reader = logmodel.Reader(rules.log)
+        self.reader.number = numbers[0] if numbers else 0
+        if not rules.none(link) and not grounds(link, rules):
+            self.reader.box.link = link_of(taken_apart(link, rules))
+
+    def bad_record(self):
+        return 29 if not self.rules.none(self.link) and grounds(self.link, self.rules) else 0
+
+    def cut_short(self):
+        return 20 if len(self.block) != self.rules.block else 0
+
+    def judged(self):
+        return self.reader.read(self.block)
+
+    def made(self):
+        for judge in self.rules.play_order:
+            number = getattr(self, judge)()
+            if number:
+                return After(number, BEFORE, self.rules.left_as('link', self.link), self.rules.left_as('out', self.out))
+        link = self.reader.box.link
+        return After(0, BEFORE, spelt(record_of(link), self.rules) if link else self.link, self.out)
+
+
 # ---- lines
 
 def parts(line):
@@ -371,6 +484,14 @@ def call(word, link, octets, out, numbers, rules=RULES):
         return write('air', air_value(numbers, octets, rules), link, out, rules)
     if word == 'open':
         return opened(link, out, numbers)
+    if word == 'block_open':
+        return block_opened(link, out, numbers, rules)
+    if word == 'block_append':
+        return Appending(link, octets, out, numbers, rules).made()
+    if word == 'block_finish':
+        return block_finished(link, out, rules)
+    if word == 'block_play':
+        return Playing(link, octets, out, numbers, rules).made()
     return Calling(word, link, octets, out, numbers, rules).made()
 
 

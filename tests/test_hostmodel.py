@@ -255,6 +255,75 @@ bad('PC1 of a change', periodic(CHANGE, 61, 7200, 7200))
 bad('PC3', periodic(CANCEL, 61, 0, 7200))
 bad('EM1', record([0] * 7 + [61, 0], (0, 0, ACTIVE, 1, 2), intervals=(0, 7200)))
 
+# Blocks of the flight log (02, L6). The checks are summed by hand: each octet times its place.
+ZEROS, ANY = '00' * 85, 'a5' * 512
+
+
+def block(number, payload='', check=0, length=None):
+    payload = payload.replace(' ', '')
+    return f'{number:08x}{len(payload) // 2 if length is None else length:04x}{payload:0<1008}{check:04x}'
+
+
+def kept(what, before, call, after, data=''):
+    check(what, f'block_append {before} {data}  {call}', f'0 999 {after} ')
+
+
+def not_kept(what, number, link, call, data=''):
+    check(what, f'block_append {link} {data}  {call}', f'{number} 999 {link} ')
+
+
+EMPTY, SETTINGS = block(0), block(0, '00 00000000 24' + '0000003c' * 9, 1 + 42 * 6 + 36 * 12 + 60 * 288)
+check('block 0', f'block_open {ANY}  77 0', f'0 999 {EMPTY} 77')
+check('block 1', f'block_open {ANY}   1', '0 999 ' + block(1) + ' ')
+check('the last block', f'block_open {ANY}   16777215', '0 999 ' + block(0xffffff) + ' ')
+check('no block behind it', f'block_open {ANY}   16777216', f'5 999 {ANY} ')
+check('a block of 511', f'block_open {ANY[2:]}   0', f'6 999 {ANY[2:]} ')
+check('5 before 6', f'block_open {ANY}a5   4294967295', f'5 999 {ANY}a5 ')
+kept('settings', EMPTY, '0 0', block(0, '00 00000000 24' + '0000003c' * 9), '0000003c' * 9)
+kept('seconds', EMPTY, '3 258', block(0, '03 00000102 00'))
+kept('data', block(1), '6 0', block(1, '06 00000000 02 2130'), '2130')
+kept('the first 129 octets', EMPTY, '9 0', block(0, '09 00000000 81' + '00' * 129), '00' * 129 + 'ff')
+kept('behind another, and the check stays', block(0, '0a 00000000 00', 7), '7 0', block(0, '0a 00000000 00 07 00000000 00', 7))
+kept('what stands behind it stays', block(0, '00' * 503 + '01', 0, 0), '2 0', block(0, '02' + '00' * 502 + '01', 0, 6))
+kept('a kind is one octet', EMPTY, '266 0', block(0, '0a 00000000 00'))
+FULL = block(0, '00' * 498)
+kept('to the last octet', FULL, '10 0', block(0, '00' * 498 + '0a 00000000 00'))
+not_kept('one octet more', 6, FULL, '6 0', '00')
+for what, call, data in (('kind 11', '11 0', ''), ('kind 255', '255 0', ''), ('seconds of data', '6 1', '00'), ('data of an elapse', '3 1', '00'),
+                         ('data of down', '10 0', '00'), ('35 octets of settings', '0 0', '00' * 35), ('37', '0 0', '00' * 37), ('no settings', '0 0', '')):
+    not_kept(what, 5, EMPTY, call, data)
+    not_kept(f'{what}, before 6', 5, FULL, call, data)
+for what, wrong in (('511 octets', EMPTY[2:]), ('513 octets', EMPTY + '00'), ('a payload of 505', block(0, '', 0, 505)), ('block 2^24', block(1 << 24)), ('nothing', '')):
+    not_kept(f'{what}, before 5', 20, wrong, '11 0')
+    check(f'finish: {what}', f'block_finish {wrong}  ', f'20 999 {wrong} ')
+
+
+def finished(what, number, payload, total, behind=''):
+    """The check is 1 and this sum."""
+    payload = payload.replace(' ', '')
+    before, after = block(number, payload + behind, 0xa5a5, len(payload) // 2), block(number, payload, (1 + total) % 65521)
+    check(f'finish: {what}', f'block_finish {before}  ', f'0 999 {after} ')
+    check(f'finish again: {what}', f'block_finish {after}  77', f'0 999 {after} 77')
+
+
+finished('block 0', 0, '', 0)
+finished('the last block', 0xffffff, '', 255 * (2 + 3 + 4))
+finished('settings', 0, '00 00000000 24' + '0000003c' * 9, 42 * 6 + 36 * 12 + 60 * 288)
+finished('seconds', 0, '03 00000102 00', 6 * 6 + 3 * 7 + 1 * 10 + 2 * 11)
+finished('zeros behind', 1, '06 00000000 02 2130', 4 + 8 * 6 + 6 * 7 + 2 * 12 + 0x21 * 13 + 0x30 * 14, behind='a5' * 496)
+finished('a full block', 0, 'ff' * 504, 1 * 5 + 0xf8 * 6 + 255 * (130305 - 21))       # 7 + .. + 510
+
+REQUEST = block(1, '01 00000000 02 3000', 1 + 4 + 8 * 6 + 7 + 2 * 12 + 0x30 * 13)
+check('settings played', f'block_play {ZEROS} {SETTINGS}  0', f'0 999 {FRESH} ')
+check('a request played', f'block_play {FRESH} {REQUEST} 77 1', f'0 999 {PENDING} 77')
+check('no record', f'block_play {ZEROS} {EMPTY[:-2]}01  0', f'0 999 {ZEROS} ')
+for what, number, link, octets, turn in (
+        ('settings twice', 20, FRESH, SETTINGS, 0), ('no settings', 20, ZEROS, REQUEST, 1), ('out of turn', 19, FRESH, REQUEST, 0),
+        ('not permitted', 20, PENDING, REQUEST, 1), ('check wrong', 18, FRESH, REQUEST[:-2] + '00', 1), ('18 before 19', 18, FRESH, REQUEST[:-2] + '00', 7),
+        ('511 octets', 20, FRESH, REQUEST[2:], 1), ('29 before the block', 29, FRESH[:-2] + '01', REQUEST[2:], 1), ('84 zeros', 29, ZEROS[2:], SETTINGS, 0),
+        ('19 before 20', 19, PENDING, REQUEST, 2), ('a block behind the last', 19, FRESH, block(1 << 24, '', 1 + 1), 1 << 24)):
+    check(f'play: {what}', f'block_play {link} {octets}  {turn}', f'{number} 999 {link} ')
+
 if failures:
     print(f'hostmodel: {failures} of {len(stored)} checks failed')
     sys.exit(1)

@@ -8,12 +8,16 @@ use script::line::Held;
 use script::line::NEVER;
 use script::line::NUMBER;
 use script::line::read_line;
+use script::line::shape_at;
 use text::least;
 ghost use mathlib.Core.Path.{_≡_};
 ghost use mathlib.Core.List.{List};
 ghost use Prim.Native.Nat.{ℕ};
-ghost use lib.ListN.{length, take};
-ghost use Rattle.bench_line.specs.Lines.{parsedIn, requestCall, octetsCall, numberCall, parsedInto};
+ghost use lib.ListN.{length, getD, take};
+ghost use Rattle.script.specs.Fields.{heldIn};
+ghost use Rattle.script.specs.Lines.{callOf, shapesOf};
+ghost use Rattle.bench_line.specs.Words.{groundWords};
+ghost use Rattle.bench_line.specs.Lines.{groundScript, parsedIn, requestCall, octetsCall, numberCall, parsedInto};
 
 // The words by their numbers, in the order of 01.
 const REQ: usize = 2;
@@ -35,6 +39,29 @@ const PEER_ABORT: usize = 9;
 const AIR_ABORT: usize = 10;
 
 const DOWN: usize = 11;
+
+// What may follow each of them, the empty one first.
+const SHAPES: [u8; 12] = [
+    NEVER,
+    NEVER,
+    HEX,
+    ALONE,
+    NUMBER,
+    HEX,
+    ALONE,
+    HEX,
+    ALONE,
+    ALONE,
+    HEX,
+    ALONE,
+];
+
+// What may follow word w.
+pub fn shape_of(w: usize) -> u8
+    ensures { λ r. ⌜ r ≡ getD (shapesOf groundWords) w 0 ⌝ }
+{
+    shape_at(&SHAPES, w)
+}
 
 // A call with the number of octets that stand beside it, or a line that is not readable.
 pub enum LineCall {
@@ -83,6 +110,17 @@ fn number_call(w: usize, n: u32) -> LineCall
     LineCall::Unread
 }
 
+// The call of word w, from what follows it.
+pub fn make_call(w: usize, held: Held, octets: &[u8]) -> LineCall
+    ensures { λ r. ⌜ parsedIn r (now (octets .entry)) ≡ callOf groundScript w (heldIn held (now (octets .entry))) ⌝ }
+{
+    match held {
+        Held::Octets(n) => octets_call(w, n, octets),
+        Held::Number(n) => number_call(w, n),
+        Held::Unread => LineCall::Unread,
+    }
+}
+
 // What a line asks of a box that has its settings. The octets of the call come to the front of `octets`, which is to have room for those of any line.
 pub fn parse_line(line: &[u8], octets: &mut [u8]) -> LineCall
     ensures { λ r. ⌜ parsedIn r (now (octets .exit)) ≡ parsedInto (length (now (octets .entry))) (now (line .entry)) ⌝ }
@@ -91,27 +129,10 @@ pub fn parse_line(line: &[u8], octets: &mut [u8]) -> LineCall
         line,
         b"setrequser-abortelapsestart-cnfstart-rejdataend-cnfpeer-abortair-abortdown",
         &[0, 0, 3, 6, 16, 22, 31, 40, 44, 51, 61, 70, 74],
-        &[
-            NEVER,
-            NEVER,
-            HEX,
-            ALONE,
-            NUMBER,
-            HEX,
-            ALONE,
-            HEX,
-            ALONE,
-            ALONE,
-            HEX,
-            ALONE,
-        ],
+        &SHAPES,
         octets,
     );
     let w = heard.word;
     let held = heard.held;
-    match held {
-        Held::Octets(n) => octets_call(w, n, octets),
-        Held::Number(n) => number_call(w, n),
-        Held::Unread => LineCall::Unread,
-    }
+    make_call(w, held, octets)
 }

@@ -6,8 +6,9 @@ use Rattle.text.specs.Words.{foundFrom}
 use Rattle.per.specs.Writing.{Delivered}
 use Rattle.adschost.specs.Flatness.{WritesFlat}
 use Rattle.host_record.specs.Hosting.{Done, Hosts, Opening, Makes}
+use Rattle.host_log.specs.Recording.{Kept, Keeps}
 use Rattle.host_lines.specs.declared.call.Called.{Called}
-use Rattle.host_lines.specs.Calls.{hostWords, wordOf, written, onLink, opens, Does}
+use Rattle.host_lines.specs.Calls.{hostWords, wordOf, written, onLink, opens, onBlock, Does}
 
 -- the table of words has none in front
 pub host-word : (w : List ℕ) → foundFrom 0 w ([] ∷ hostWords) ≡ wordOf w
@@ -25,3 +26,6 @@ linked-so h = record { number-is = h .number-is; length-is = refl; link-is = h .
 
 pub opens-so : {o : Opening} {n : ℕ} {link : List ℕ} (out : List ℕ) → Makes o n link → Hosts (opens o out) n link out
 opens-so out m = record { number-is = m .number-is; link-is = m .link-is; answer-is = refl }
+
+pub kept-so : {k : Kept} {n : ℕ} {link : List ℕ} (out : List ℕ) → Keeps k n link → Hosts (onBlock k out) n link out
+kept-so out m = record { number-is = m .number-is; link-is = m .block-is; answer-is = refl }

@@ -68,8 +68,8 @@ hold-good (c ∷ cs) o after e h r some sp ends inside x is =
     }
 
 -- ---- a whole line
-module _ (s : List ℕ) (x : Field) (p : List ℕ) (m : ℕ) (whole : m ≡ 256) (h : Holds m s x p) where
-  here : heldIn x p ≡ hexStep 256 s
+module _ (s : List ℕ) (x : Field) (p : List ℕ) (m : ℕ) (whole : m ≡ 520) (h : Holds m s x p) where
+  here : heldIn x p ≡ hexStep 520 s
   here = rw (← whole) (h .is)
 
   field-there : (f : List ℕ → List ℕ → Ask) (t : List ℕ) → x .good ≡ true → t ≡ drop (x .used) s → f (take (x .count) p) t ≡ fieldThen f s
@@ -80,17 +80,17 @@ module _ (s : List ℕ) (x : Field) (p : List ℕ) (m : ℕ) (whole : m ≡ 256)
   unfolding fieldThen
   field-none f g = rw (← here, g)
 
-module _ (s : List ℕ) (x : Field) (p : List ℕ) (m : ℕ) (mm : m ≡ 256) (X : Holds m s x p) where
+module _ (s : List ℕ) (x : Field) (p : List ℕ) (m : ℕ) (mm : m ≡ 520) (X : Holds m s x p) where
   pub asked-no-link : x .good ≡ false → unread ≡ asked s
   unfolding asked
   asked-no-link g = field-none s x p m mm X _ g
 
-  module _ (gx : x .good ≡ true) (t : List ℕ) (pt : t ≡ drop (x .used) s) (y : Field) (q : List ℕ) (n : ℕ) (nn : n ≡ 256) (Y : Holds n t y q) where
+  module _ (gx : x .good ≡ true) (t : List ℕ) (pt : t ≡ drop (x .used) s) (y : Field) (q : List ℕ) (n : ℕ) (nn : n ≡ 520) (Y : Holds n t y q) where
     pub asked-no-octets : y .good ≡ false → unread ≡ asked s
     unfolding asked
     asked-no-octets g = field-none t y q n nn Y _ g ∙ field-there s x p m mm X _ t gx pt
 
-    module _ (gy : y .good ≡ true) (u : List ℕ) (pu : u ≡ drop (y .used) t) (z : Field) (o : List ℕ) (k : ℕ) (kk : k ≡ 256) (Z : Holds k u z o) where
+    module _ (gy : y .good ≡ true) (u : List ℕ) (pu : u ≡ drop (y .used) t) (z : Field) (o : List ℕ) (k : ℕ) (kk : k ≡ 520) (Z : Holds k u z o) where
       pub asked-no-out : z .good ≡ false → unread ≡ asked s
       unfolding asked
       asked-no-out g = field-none u z o k kk Z _ g ∙ field-there t y q n nn Y _ u gy pu ∙ field-there s x p m mm X _ t gx pt

@@ -72,9 +72,9 @@ pub data Ask : Type 0 where
 unfoldable pub numbersAsked : List ℕ → List ℕ → List ℕ → Numbers → Ask
 numbersAsked link octets out n = pick (n .good) (asks link octets out (take (n .count) (n .list))) unread
 
--- a field of at most 256 octets, and what comes of it and of the rest
+-- a field of at most 520 octets, and what comes of it and of the rest
 unfoldable pub fieldThen : (List ℕ → List ℕ → Ask) → List ℕ → Ask
-fieldThen f s = pick (hexStep 256 s .good) (f (hexStep 256 s .octets) (drop (hexStep 256 s .used) s)) unread
+fieldThen f s = pick (hexStep 520 s .good) (f (hexStep 520 s .octets) (drop (hexStep 520 s .used) s)) unread
 
 unfoldable pub asked : List ℕ → Ask
 asked s = fieldThen (λ link. fieldThen (λ octets. fieldThen (λ out t. numbersAsked link octets out (numbersIn t)))) s
@@ -88,7 +88,7 @@ askedIn r link octets out = numbersAsked (take (r .link) link) (take (r .octets)
 
 pub record Asks (s : List ℕ) (r : Asked) (link octets out : List ℕ) : Type 0 where
   pub is : askedIn r link octets out ≡ asked s
-  pub link-fits : r .link ≤ 256
-  pub octets-fits : r .octets ≤ 256
-  pub out-fits : r .out ≤ 256
+  pub link-fits : r .link ≤ 520
+  pub octets-fits : r .octets ≤ 520
+  pub out-fits : r .out ≤ 520
   pub numbers-fit : r .numbers .count ≤ 48

@@ -1,4 +1,5 @@
 // The calls themselves, by the number of their word.
+use adschost::blocks::*;
 use adschost::calls::*;
 use adschost::messages::adsc_write_air;
 use adschost::messages::adsc_write_ground;
@@ -7,13 +8,14 @@ use text::words::find;
 ghost use mathlib.Core.Path.{_≡_};
 ghost use mathlib.Core.List.{[]};
 ghost use Rattle.host_record.specs.Hosting.{hosted, Hosts};
+ghost use Rattle.host_log.specs.Recording.{Keeps};
 ghost use Rattle.per.specs.Writing.{writePdu};
 ghost use Rattle.pdu.specs.UplinkTable.{groundC};
 ghost use Rattle.pdu.specs.DownlinkTable.{airC};
 ghost use Rattle.host_numbers.specs.UplinkNumbers.{groundAt};
 ghost use Rattle.host_numbers.specs.DownlinkNumbers.{airAt};
 ghost use Rattle.adschost.specs.Flatness.{WritesFlat};
-ghost use Rattle.host_lines.specs.Calls.{wordOf, plainCall, octetsCall, otherDone, linkDone, called, Does};
+ghost use Rattle.host_lines.specs.Calls.{wordOf, plainCall, octetsCall, otherDone, linkDone, blockDone, called, Does};
 
 const WRITE_GROUND: usize = 1;
 
@@ -37,6 +39,14 @@ const END_CONFIRM: usize = 11;
 
 const PEER_ABORT: usize = 12;
 
+const DOWN: usize = 13;
+
+const BLOCK_OPEN: usize = 14;
+
+const BLOCK_APPEND: usize = 15;
+
+const BLOCK_FINISH: usize = 16;
+
 // What stands in the place of the length before a call: more than any PDU has.
 const BEFORE: usize = 999;
 
@@ -52,8 +62,28 @@ pub(crate) fn word_of(w: &[u8]) -> usize
 {
     find(
         w,
-        b"write_groundwrite_airopenrequestelapsestart_confirmdataair_abortuser_abortstart_rejectedend_confirmpeer_abortdown",
-        &[0, 0, 12, 21, 25, 32, 38, 51, 55, 64, 74, 88, 99, 109, 113],
+        b"write_groundwrite_airopenrequestelapsestart_confirmdataair_abortuser_abortstart_rejectedend_confirmpeer_abortdownblock_openblock_appendblock_finishblock_play",
+        &[
+            0,
+            0,
+            12,
+            21,
+            25,
+            32,
+            38,
+            51,
+            55,
+            64,
+            74,
+            88,
+            99,
+            109,
+            113,
+            123,
+            135,
+            147,
+            157,
+        ],
     )
 }
 
@@ -118,6 +148,20 @@ fn link_call(w: usize, link: &mut [u8], octets: &[u8], numbers: &[u32], out: &mu
     }
 }
 
+// The calls of the flight log, on a block or a record in the place of the link; the last word is `block_play`. A kind is an octet: of a larger number the
+// lowest.
+fn block_call(w: usize, link: &mut [u8], octets: &[u8], numbers: &[u32]) -> u8
+    ensures { λ r. ⌜ Keeps (blockDone w (now (link .entry)) (now (octets .entry)) (now (numbers .entry))) r (now (link .exit)) ⌝ }
+{
+    let first = number(numbers, 0);
+    match w {
+        BLOCK_OPEN => adsc_block_open(link, first),
+        BLOCK_APPEND => adsc_block_append(link, (first % 256) as u8, number(numbers, 1), octets),
+        BLOCK_FINISH => adsc_block_finish(link),
+        _ => adsc_block_play(link, octets, first),
+    }
+}
+
 // One call on buffers, whatever they hold.
 pub(crate) fn call(
     w: usize,
@@ -133,6 +177,13 @@ pub(crate) fn call(
     }
     if w == WRITE_AIR {
         return write_air(octets, numbers, out);
+    }
+    if w > DOWN {
+        let number = block_call(w, link, octets, numbers);
+        return Called {
+            number,
+            length: BEFORE,
+        };
     }
     let number = link_call(w, link, octets, numbers, out);
     Called {

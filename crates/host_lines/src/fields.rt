@@ -128,7 +128,7 @@ fn unread() -> Asked
 
 // The three fields, each into a buffer of its own, and the numbers.
 pub(crate) fn parse(s: &[u8], link: &mut [u8], octets: &mut [u8], out: &mut [u8]) -> Asked
-    requires { ⌜ (length (now link) ≡ 256) × (length (now octets) ≡ 256) × (length (now out) ≡ 256) ⌝ }
+    requires { ⌜ (length (now link) ≡ 520) × (length (now octets) ≡ 520) × (length (now out) ≡ 520) ⌝ }
     ensures { λ r. ⌜ Asks (now (s .entry)) r (now (link .exit)) (now (octets .exit)) (now (out .exit)) ⌝ }
 {
     let x = hex_step(s, link);

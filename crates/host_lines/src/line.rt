@@ -46,10 +46,10 @@ fn say_call(
 }
 
 // Room for a field. Only its length is stated: its octets are written before they are read.
-fn blank() -> [u8; 256]
-    ensures { λ r. ⌜ 256 ≡ length r ⌝ }
+fn blank() -> [u8; 520]
+    ensures { λ r. ⌜ 520 ≡ length r ⌝ }
 {
-    [0; 256]
+    [0; 520]
 }
 
 fn say_tail(out: &mut [u8], at: usize, w: usize, tail: &[u8]) -> usize

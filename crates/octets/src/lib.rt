@@ -1,9 +1,9 @@
-// Numbers of four octets, the most significant octet first. What is not there reads as 0, and what has no room is dropped.
+// Numbers of two and of four octets, the most significant octet first, and runs of octets. What is not there reads as 0, and what has no room is dropped.
 ghost use mathlib.Core.Path.{_≡_};
-ghost use Prim.Native.Nat.{_+_, _*_, _≤_};
+ghost use Prim.Native.Nat.{_+_, _-_, _*_, _≤_};
 ghost use lib.ListN.{length, getD, set};
 ghost use lib.Seq.{sets};
-ghost use Rattle.octets.specs.Octets.{quad, wordAt};
+ghost use Rattle.octets.specs.Octets.{pair, pairAt, quad, wordAt, zeros};
 
 pub fn octet(s: &[u8], i: usize) -> u8
     ensures { λ r. ⌜ r ≡ getD (now (s .entry)) i 0 ⌝ }
@@ -56,6 +56,17 @@ pub fn read_word(s: &[u8], at: usize) -> u32
         return read_cut(s, at);
     }
     read_whole(s, at)
+}
+
+pub fn read_pair(s: &[u8], at: usize) -> u16
+    ensures { λ r. ⌜ r ≡ pairAt (now (s .entry)) at ⌝ }
+{
+    if s.len() <= at {
+        return 0;
+    }
+    let a = wide(octet(s, at));
+    let b = wide(octet(s, at + 1));
+    (a * 256 + b) as u16
 }
 
 pub fn octets_of(w: u32) -> [u8; 4]
@@ -116,4 +127,38 @@ pub fn put_word(out: &mut [u8], at: usize, w: u32)
         return;
     }
     put_whole(out, at, w);
+}
+
+pub fn put_pair(out: &mut [u8], at: usize, n: u16)
+    ensures { λ _. ⌜ now (out .exit) ≡ sets (now (out .entry)) at (pair n) ⌝ }
+{
+    if out.len() <= at {
+        return;
+    }
+    put_octet(out, at, (n / 256) as u8);
+    put_octet(out, at + 1, (n % 256) as u8);
+}
+
+pub fn put_octets(out: &mut [u8], at: usize, s: &[u8])
+    ensures { λ _. ⌜ now (out .exit) ≡ sets (now (out .entry)) at (now (s .entry)) ⌝ }
+{
+    if out.len() <= at {
+        return;
+    }
+    let mut i: usize = 0;
+    while i < s.len() {
+        put_octet(out, at + i, s[i]);
+        i += 1;
+    }
+}
+
+// From a place up to another.
+pub fn put_zeros(out: &mut [u8], from: usize, to: usize)
+    ensures { λ _. ⌜ now (out .exit) ≡ sets (now (out .entry)) from (zeros (to - from)) ⌝ }
+{
+    let mut i = from;
+    while i < to {
+        put_octet(out, i, 0);
+        i += 1;
+    }
 }

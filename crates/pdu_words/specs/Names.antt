@@ -84,7 +84,7 @@ listAt n = getD lists n []
 unfoldable pub vocabulary : List (List ℕ)
 vocabulary = [] ∷ (requests ++ reasons ++ events ++ elements ++ accuracies ++ abortReasons ++ norths ++ easts ++ truths ++ scales ++ labels)
 
--- why a reading was refused (01, "Refusal numbers", which start at 7)
+-- why a reading was refused (01, "Refusal numbers", which start at 7; L6)
 unfoldable pub refusalWords : List (List ℕ)
 refusalWords =
     [] ∷ [] ∷ [] ∷ [] ∷ [] ∷ [] ∷ []
@@ -99,4 +99,7 @@ refusalWords =
     ∷ ascii " (event contract with no element)"
     ∷ ascii " (input over 128 octets)"
     ∷ ascii " (line not readable)"
+    ∷ ascii " (check wrong)"
+    ∷ ascii " (block number out of turn)"
+    ∷ ascii " (record not readable)"
     ∷ []

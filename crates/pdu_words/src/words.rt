@@ -162,7 +162,7 @@ pub(crate) fn put_listed(out: &mut Page, at: usize, list: u8, n: u32) -> usize
     at
 }
 
-// Why a reading was refused (01, "Refusal numbers", which start at 7).
+// Why a reading was refused (01, "Refusal numbers", which start at 7; L6).
 pub(crate) fn put_refusal(out: &mut Page, at: usize, n: u8) -> usize
     ensures { λ r. ⌜ Writes (page (now (out .entry)) at) (wordAt refusalWords n) (page (now (out .exit)) r) ⌝ }
 {
@@ -179,7 +179,10 @@ pub(crate) fn put_refusal(out: &mut Page, at: usize, n: u8) -> usize
         (octets after the PDU) \
         (event contract with no element) \
         (input over 128 octets) \
-        (line not readable)",
+        (line not readable) \
+        (check wrong) \
+        (block number out of turn) \
+        (record not readable)",
         &[
             0,
             0,
@@ -200,6 +203,9 @@ pub(crate) fn put_refusal(out: &mut Page, at: usize, n: u8) -> usize
             248,
             272,
             292,
+            306,
+            333,
+            355,
         ],
         n as usize,
     )

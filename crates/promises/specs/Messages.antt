@@ -3,9 +3,10 @@
 use mathlib.Core.Path.{_≡_}
 use mathlib.Core.List.{List, [], _∷_}
 use mathlib.Core.Bool.{true, false}
-use Prim.Native.Nat.{ℕ, _-_, _<_}
-use lib.ListN.{length, getD}
+use Prim.Native.Nat.{ℕ, _-_}
+use lib.ListN.{length}
 use lib.Dec.{T}
+use Rattle.octets.specs.Octets.{Octets}
 use Rattle.per.specs.Bits.{bitsOf}
 use Rattle.per.specs.Codec.{Codec}
 use Rattle.per.specs.Pdu.{pack, encode, readPdu, got, refused}
@@ -15,10 +16,6 @@ use Rattle.pdu.specs.Default.{defaultSent, withoutDefault}
 use Rattle.pdu.specs.DownlinkTable.{airC}
 use Rattle.sides.specs.Tables.{member}
 use Rattle.refusals.specs.Refusals.{CUT-SHORT, ABOVE-RANGE, EXTENSION-SET, NOT-CARRIED, FILLING, OCTETS-AFTER, NO-ELEMENT, INPUT-OVER}
-
--- a list of octets
-abbrev pub Octets : List ℕ → Type 0
-Octets s = (i : ℕ) → getD s i 0 < 256
 
 pub record BothWays {A : Type 0} (table : Codec A) : Type 0 where
   -- "every value written reads back the same": what is absent reads as 0, or as the default, and is no part of the value

@@ -1,4 +1,4 @@
--- The numbers by which calls refuse, each with the words of 01 ("Refusal numbers"). 0 is no refusal.
+-- The numbers by which calls refuse, each with the words of 01 ("Refusal numbers") or of the request that brought it. 0 is no refusal.
 use Prim.Native.Nat.{ℕ}
 
 -- request not permitted
@@ -66,6 +66,18 @@ INPUT-OVER = 16
 -- script line not readable
 abbrev pub SCRIPT-LINE : ℕ
 SCRIPT-LINE = 17
+
+-- check wrong (L6)
+abbrev pub CHECK-WRONG : ℕ
+CHECK-WRONG = 18
+
+-- block number out of turn (L6)
+abbrev pub OUT-OF-TURN : ℕ
+OUT-OF-TURN = 19
+
+-- record not readable (L6)
+abbrev pub NOT-READABLE : ℕ
+NOT-READABLE = 20
 
 -- link record not good
 abbrev pub BAD-RECORD : ℕ

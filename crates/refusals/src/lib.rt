@@ -1,4 +1,4 @@
-// The numbers by which calls refuse, each with the words of 01 ("Refusal numbers"). 0 is no refusal.
+// The numbers by which calls refuse, each with the words of 01 ("Refusal numbers") or of the request that brought it. 0 is no refusal.
 // request not permitted
 pub const NOT_PERMITTED: u8 = 1;
 
@@ -48,6 +48,15 @@ pub const INPUT_OVER: u8 = 16;
 
 // script line not readable
 pub const SCRIPT_LINE: u8 = 17;
+
+// check wrong (L6)
+pub const CHECK_WRONG: u8 = 18;
+
+// block number out of turn (L6)
+pub const OUT_OF_TURN: u8 = 19;
+
+// record not readable (L6)
+pub const NOT_READABLE: u8 = 20;
 
 // link record not good
 pub const BAD_RECORD: u8 = 29;

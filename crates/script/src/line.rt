@@ -105,7 +105,7 @@ fn hold(shape: u8, tail: &[u8], octets: &mut [u8]) -> Held
 }
 
 // What may follow word w.
-fn shape_at(shapes: &[u8], w: usize) -> u8
+pub fn shape_at(shapes: &[u8], w: usize) -> u8
     ensures { λ r. ⌜ r ≡ getD (now (shapes .entry)) w 0 ⌝ }
 {
     if w < shapes.len() {

@@ -1,5 +1,7 @@
+use mathlib.Core.Path.{sym}
 use native.Mathlib.Omega.{arith}
-use Rattle.octets.proofs.Words.{quad-out, quad-is}
+use Rattle.octets.specs.Octets.{quad}
+use Rattle.octets.proofs.Words.{sets-out, quad-is}
 use borrow.Author.Needs.{needs}
 use Rattle.octets.proofs.put_cut.Statement.{statement}
 use Rattle.octets.proofs.put_cut.Tie as tie
@@ -7,7 +9,7 @@ use Rattle.octets.proofs.put_cut.Tie as tie
 returns : tie.Need-returns
 returns c =
     let s = c .before .before .args in
-    quad-out (s .out .now) (s .at) (s .w) (omega arith)
+    sym (sets-out (quad (s .w)) (s .out .now) (s .at) (omega arith))
 
 octets-of-requires : tie.Need-octets-of-requires
 octets-of-requires c κs = search needs

@@ -5,10 +5,10 @@ use mathlib.Core.List.{List, [], _∷_, _++_, append-assoc}
 use native.Mathlib.Omega.{arith}
 use lib.ListN.{length, getD, take, drop, length-append}
 use lib.Seq.{getD-append-add, drop-cons}
-use Rattle.octets.specs.Octets.{quad, quads, wordAt, words}
+use Rattle.octets.specs.Octets.{Octets, pair, quad, quads, wordAt, words}
 
 -- ---- four octets and their number
-quad-word : (w : ℕ) → ((w / 16777216 * 256 + w / 65536 % 256) * 256 + w / 256 % 256) * 256 + w % 256 ≡ w
+pub quad-word : (w : ℕ) → ((w / 16777216 * 256 + w / 65536 % 256) * 256 + w / 256 % 256) * 256 + w % 256 ≡ w
 quad-word w = omega arith
 
 module _ (a b c d : ℕ) (g : b < 256) (h : c < 256) (k : d < 256) where
@@ -26,6 +26,22 @@ module _ (a b c d : ℕ) (g : b < 256) (h : c < 256) (k : d < 256) where
 
   word-d : made % 256 ≡ d
   word-d = omega arith
+
+  pub word-quad : quad made ≡ a ∷ b ∷ c ∷ d ∷ []
+  word-quad = rw (word-a, word-b, word-c, word-d)
+
+-- ---- two octets and their number
+pub pair-word : (n : ℕ) → n / 256 * 256 + n % 256 ≡ n
+pair-word n = omega arith
+
+pair-a : (a b : ℕ) → b < 256 → (a * 256 + b) / 256 ≡ a
+pair-a a b h = omega arith
+
+pair-b : (a b : ℕ) → b < 256 → (a * 256 + b) % 256 ≡ b
+pair-b a b h = omega arith
+
+pub word-pair : (a b : ℕ) → b < 256 → pair (a * 256 + b) ≡ a ∷ b ∷ []
+word-pair a b h = rw (pair-a a b h, pair-b a b h)
 
 -- ---- numbers to octets and back
 pub there : (p q : List ℕ) (n k : ℕ) → length p ≡ n → getD (p ++ q) (n + k) 0 ≡ getD q k 0
@@ -71,7 +87,7 @@ next-4 s i h =
 same-5 : (a b c d a′ b′ c′ d′ : ℕ) (r r′ : List ℕ) → a ≡ a′ → b ≡ b′ → c ≡ c′ → d ≡ d′ → r ≡ r′ → _≡_ {A = List ℕ} (a ∷ b ∷ c ∷ d ∷ r) (a′ ∷ b′ ∷ c′ ∷ d′ ∷ r′)
 same-5 a b c d a′ b′ c′ d′ r r′ e f g h k = rw (e, f, g, h, k)
 
-pub quads-words : (s : List ℕ) (i n : ℕ) → ((k : ℕ) → getD s k 0 < 256) → i + n * 4 ≤ length s → quads (words s i n) ≡ take (n * 4) (drop i s)
+pub quads-words : (s : List ℕ) (i n : ℕ) → Octets s → i + n * 4 ≤ length s → quads (words s i n) ≡ take (n * 4) (drop i s)
 quads-words s i zero f h = refl
 quads-words s i (suc n) f h =
     let e : suc (suc (suc (suc (n * 4)))) ≡ suc n * 4 = omega arith in

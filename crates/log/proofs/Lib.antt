@@ -1,0 +1,15 @@
+pub mod Tests
+pub mod Blocks
+pub mod Packs
+pub mod Fewest
+pub mod Plays
+pub mod FormOne
+pub mod Checks
+pub mod Weights
+pub mod Judges
+pub mod Places
+pub mod Walks
+pub mod Seals
+pub mod Recorders
+pub mod Examples
+pub mod Promises

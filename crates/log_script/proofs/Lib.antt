@@ -1,0 +1,4 @@
+pub mod Fronts
+pub mod Ways
+pub mod Promises
+pub mod Notes

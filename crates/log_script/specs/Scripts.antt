@@ -1,0 +1,29 @@
+-- The records of a whole script, as the log keeps them.
+use mathlib.Core.List.{List, [], _∷_, _++_}
+use Prim.Native.Nat.{ℕ}
+use Rattle.ground.specs.declared.call.Call.{Call}
+use Rattle.ground.specs.Runs.{Made}
+use Rattle.script.specs.Lines.{Parsed, unread, makes}
+use Rattle.bench_line.specs.Lines.{parsedLine}
+use Rattle.bench.specs.declared.reply.Setup.{Setup}
+use Rattle.bench.specs.Replies.{lineReply}
+use Rattle.log.specs.Record.{Rec, noted}
+use Rattle.log_script.specs.Heard.{lineKept}
+
+-- "Of longer data the first 129 octets are kept"
+abbrev pub notedAll : List Rec → List Rec
+notedAll [] = []
+notedAll (r ∷ rs) = noted r ∷ notedAll rs
+
+abbrev pub scriptKept : Setup → List (List ℕ) → List Rec
+scriptKept b [] = []
+scriptKept b (line ∷ lines) = notedAll (lineKept b line) ++ scriptKept (lineReply b line .box) lines
+
+-- the calls that lines ask of a box that has its settings
+abbrev pub onto : Parsed Call → List Made → List Made
+onto (makes c s) cs = record { call = c; octets = s } ∷ cs
+onto unread cs = cs
+
+abbrev pub callsIn : List (List ℕ) → List Made
+callsIn [] = []
+callsIn (line ∷ lines) = onto (parsedLine line) (callsIn lines)
