@@ -31,14 +31,14 @@ extern "C" {
 /* ---- sizes */
 
 #define ADSC_LINK_OCTETS 85     /* of a link record, exactly */
-#define ADSC_ANSWER_OCTETS 22   /* of an answer; a longer buffer keeps what follows */
+#define ADSC_ANSWER_OCTETS 31   /* of an answer; a longer buffer keeps what follows */
 #define ADSC_TIMERS 9           /* settings of adsc_open */
-#define ADSC_GROUND_NUMBERS 9   /* of a ground PDU */
+#define ADSC_GROUND_NUMBERS 21  /* of a ground PDU */
 #define ADSC_AIR_NUMBERS 40     /* of an aircraft PDU, */
 #define ADSC_LIST_OCTETS 128    /* and of its list */
 #define ADSC_PDU_OCTETS 128     /* room for every PDU; an input over it is refused */
 #define ADSC_ACTIONS_MOST 8     /* in one answer */
-#define ADSC_SENT_MOST 8        /* octets of the PDU in one answer */
+#define ADSC_SENT_MOST 17       /* octets of the PDU in one answer */
 #define ADSC_SECONDS_MOST 86400 /* of a setting and of one adsc_elapse */
 #define ADSC_INTERVAL_MOST 7200 /* seconds of a record's interval: 120 minutes, the longest that can be asked for */
 #define ADSC_BLOCK_OCTETS 512   /* of a block of the flight log, exactly, */
@@ -103,7 +103,19 @@ enum adsc_ground_place {
     ADSC_G_PROFILE = 5,
     ADSC_G_GROUND_VECTOR = 6,
     ADSC_G_AIR_VECTOR = 7,
-    ADSC_G_WEATHER = 8
+    ADSC_G_WEATHER = 8,
+    ADSC_G_LATERAL = 9,         /* of an event contract, each where its element is set: a lateral deviation, 0..2000 tenths of a nautical mile, */
+    ADSC_G_RATE = 10,           /* a vertical rate, -3000..3000 tens of feet a minute in two's complement: (int32_t) gives it its sign, */
+    ADSC_G_CEILING = 11,        /* the ceiling and the floor of a level range, */
+    ADSC_G_FLOOR = 12,          /* each -75..10000 tens of feet in two's complement; a ceiling below its floor is taken, */
+    ADSC_G_AIR_SPEED = 13,      /* which air speed changes, ADSC_SPEED_MACH or ADSC_SPEED_IAS, */
+    ADSC_G_AIR_SPEED_CHANGE = 14, /* and by how much: 1..255 times 0.005 Mach, or 1..700 knots, */
+    ADSC_G_GROUND_SPEED = 15,   /* a change of ground speed, 0..300 knots, */
+    ADSC_G_HEADING = 16,        /* of heading, 1..3600 tenths of a degree, */
+    ADSC_G_EXTENDED_PROFILE = 17, /* how much of the extended profile is asked for, enum adsc_profile, */
+    ADSC_G_EXTENDED_PROFILE_COUNT = 18, /* and how many: 1..80 times 15 minutes, or 1..128 way points, */
+    ADSC_G_TRACK = 19,          /* a change of track angle, as of heading, */
+    ADSC_G_LEVEL = 20           /* of level, 1..500 tens of feet */
 };
 
 enum adsc_ground_kind {
@@ -119,6 +131,7 @@ enum adsc_ground_kind {
 
 enum adsc_contract { ADSC_CANCEL_EVENT = 0, ADSC_CANCEL_PERIODIC = 1 };  /* ADSC_G_WHAT of a cancel-contract */
 enum adsc_scale { ADSC_SECONDS = 0, ADSC_MINUTES = 1 };
+enum adsc_profile { ADSC_PROFILE_TIME = 0, ADSC_PROFILE_WAYPOINTS = 1 };
 
 /* Elements are presence bits. Of demand and periodic contracts, and of reports (which carry the address, the vectors and weather): */
 enum adsc_element {
@@ -142,8 +155,20 @@ enum adsc_ground_part { ADSC_HAS_TRACK = 4, ADSC_HAS_GROUND_SPEED = 2, ADSC_HAS_
 enum adsc_air_part { ADSC_HAS_HEADING = 4, ADSC_HAS_AIR_SPEED = 2, ADSC_HAS_AIR_RATE = 1 };
 enum adsc_weather_part { ADSC_HAS_WIND_SPEED = 8, ADSC_HAS_WIND_DIRECTION = 4, ADSC_HAS_TEMPERATURE = 2, ADSC_HAS_TURBULENCE = 1 };
 
-/* and of event contracts, where the other nine of eleven bits are not carried: */
-enum adsc_event_element { ADSC_ON_WAYPOINT_CHANGE = 128, ADSC_ON_MERIT_CHANGE = 4 };
+/* and of event contracts, at least one of them: */
+enum adsc_event_element {
+    ADSC_ON_LATERAL_CHANGE = 1024,
+    ADSC_ON_RATE_CHANGE = 512,
+    ADSC_ON_LEVEL_RANGE = 256,
+    ADSC_ON_WAYPOINT_CHANGE = 128,  /* has no number */
+    ADSC_ON_AIR_SPEED_CHANGE = 64,
+    ADSC_ON_GROUND_SPEED_CHANGE = 32,
+    ADSC_ON_HEADING_CHANGE = 16,
+    ADSC_ON_PROFILE_CHANGE = 8,
+    ADSC_ON_MERIT_CHANGE = 4,       /* has no number */
+    ADSC_ON_TRACK_CHANGE = 2,
+    ADSC_ON_LEVEL_CHANGE = 1
+};
 
 /* ---- aircraft PDUs as ADSC_AIR_NUMBERS numbers, under the same rules, and the octets of a list */
 
@@ -353,7 +378,7 @@ static inline const uint8_t *adsc_answer_sent_octets(const uint8_t *answer)
 /* A new link record, everything IDLE, from nine settings in watch order. Refuses: 3, 6 (a record that is not of 85 octets). */
 uint8_t adsc_open(const uint32_t *settings, size_t settings_length, uint8_t *link, size_t link_length);
 
-/* Calls on a record. Each refuses 29 first, and 6 last: an answer of less than 22 octets; what stands between is said below. */
+/* Calls on a record. Each refuses 29 first, and 6 last: an answer of less than 31 octets; what stands between is said below. */
 
 /* The user asks: a ground PDU as numbers. The first contract is a start request. Refuses: 29, 1, then as adsc_write_ground 5, 10, 15, then 6. A kind
  * or a contract to cancel that names nothing is no request: 1. */
@@ -498,7 +523,7 @@ uint8_t adsc_read_ground(const uint8_t *octets, size_t octets_length, uint32_t *
  * for the others. Refuses: in the order of the fields 5, 10, 12, then 6. A kind or a scale that names nothing is 5. */
 uint8_t adsc_write_air(const uint32_t *numbers, size_t numbers_length, const uint8_t *list, size_t list_length, uint8_t *out, size_t out_length, size_t *written);
 
-/* The same. Refuses: in the order of the fields 5, 10, 15, then 6. */
+/* The same. Refuses: in the order of the fields 5, 10, 15, then 6. An air speed or a profile that names nothing is 5 too. */
 uint8_t adsc_write_ground(const uint32_t *numbers, size_t numbers_length, uint8_t *out, size_t out_length, size_t *written);
 
 #ifdef __cplusplus

@@ -15,7 +15,7 @@ static int kind_by_hand(int air, uint32_t kind)
 {
     if (air)
         return kind != ADSC_CANCEL_EMERGENCY && kind != ADSC_NONCOMPLIANCE && kind != ADSC_POSITIVE_ACK && kind != ADSC_AIR_ABORT;
-    return kind == ADSC_PERIODIC_CONTRACT || kind > ADSC_GROUND_ABORT;
+    return kind == ADSC_EVENT_CONTRACT || kind == ADSC_PERIODIC_CONTRACT || kind > ADSC_GROUND_ABORT;
 }
 
 int by_hand(int air, const uint8_t *octets)
@@ -159,8 +159,8 @@ static void read_drawn(const struct pdu *p)
 
 /* The ends of the ranges of 01 and 02. */
 static const int32_t ends[] = {
-    INT32_MIN, -3000, -400, -75, -50, 0, 1, 2, 3, 7, 8, 11, 12, 15, 16, 23, 31, 59, 64, 90, 92, 120, 124, 127, 180, 255, 300, 360, 400, 500, 599, 1100,
-    1996, 2095, 2200, 3000, 3600, 4000, 10000, 0xffffff, INT32_MAX,
+    INT32_MIN, -3000, -400, -75, -50, 0, 1, 2, 3, 7, 8, 11, 12, 15, 16, 23, 31, 59, 64, 80, 90, 92, 120, 124, 127, 128, 180, 255, 300, 360, 400, 500, 599,
+    700, 1100, 1996, 2000, 2047, 2095, 2200, 3000, 3600, 4000, 10000, 0xffffff, INT32_MAX,
 };
 enum { ENDS = sizeof ends / sizeof *ends };
 
@@ -243,7 +243,7 @@ void alike(const struct pdu *first, int count, int spoils)
         read_lengths(p);
         read_bits(p);
         near = next_to_default(p);
-        if (!p->air)
+        if (!p->air && p->numbers[ADSC_G_KIND] == ADSC_PERIODIC_CONTRACT)
             read_bits(&near);
     }
 }
@@ -261,7 +261,7 @@ static void tell(const char *what, const size_t *counts, const uint8_t *due, int
 
 void alike_tell(void)
 {
-    static const uint8_t read[] = {0, 6, 7, 8, 9, 10, 12, 13, 14, 16}, written[] = {0, 5, 6, 10, 12};
+    static const uint8_t read[] = {0, 6, 7, 8, 9, 10, 12, 13, 14, 15, 16}, written[] = {0, 5, 6, 10, 12, 15};
     printf("%zu inputs answered alike by the archive and by hand, %zu of them send 5 minutes\n", inputs, defaults);
     if (!defaults)
         stop("the default was never read", NULL);

@@ -166,20 +166,46 @@ static void periodic(uint32_t *n, const PeriodicContract_t *c)
     n[8] = modulus(c->weather);
 }
 
+static void air_speed_change(uint32_t *n, const AirSpeedChange_t *c)
+{
+    n[13] = c->present - 1;
+    n[14] = c->present == AirSpeedChange_PR_mach ? c->choice.mach : c->choice.ias;
+}
+
+static void profile_request(uint32_t *n, const ProfileRequest_t *r)
+{
+    n[17] = r->present - 1;
+    n[18] = r->present == ProfileRequest_PR_time ? r->choice.time : r->choice.points;
+}
+
+static void event(uint32_t *n, const EventContract_t *e)
+{
+    n[1] = MASK(e->lateral_deviation, e->vertical_rate, e->altitude_range, e->way_point, e->air_speed, e->ground_speed, e->heading,
+                e->extended_profile, e->merit, e->track_angle, e->altitude);
+    n[9] = part(e->lateral_deviation);
+    n[10] = part(e->vertical_rate);
+    n[11] = e->altitude_range ? e->altitude_range->ceiling : 0;
+    n[12] = e->altitude_range ? e->altitude_range->floor : 0;
+    if (e->air_speed)
+        air_speed_change(n, e->air_speed);
+    n[15] = part(e->ground_speed);
+    n[16] = part(e->heading);
+    if (e->extended_profile)
+        profile_request(n, e->extended_profile);
+    n[19] = part(e->track_angle);
+    n[20] = part(e->altitude);
+}
+
 void flat_ground(const Ground_t *g, uint32_t *n)
 {
     const DemandContract_t *d = &g->choice.demand_contract;
-    const EventContract_t *e = &g->choice.event_contract;
     n[0] = g->present - 1;
     switch (g->present) {
     case Ground_PR_cancel_contract: n[1] = g->choice.cancel_contract; break;
     case Ground_PR_demand_contract:
         n[1] = MASK(d->address, d->projected_profile, d->ground_vector, d->air_vector, d->weather, d->short_term_intent, d->extended_profile);
         break;
-    case Ground_PR_event_contract:
-        n[1] = MASK(e->lateral_deviation, e->vertical_rate, e->altitude_range, e->way_point, e->air_speed, e->ground_speed, e->heading,
-                    e->extended_profile, e->merit, e->track_angle, e->altitude);
-        break;
+    case Ground_PR_event_contract: event(n, &g->choice.event_contract); break;
     case Ground_PR_modify_emergency: interval(n, &g->choice.modify_emergency); break;
     case Ground_PR_periodic_contract: periodic(n, &g->choice.periodic_contract); break;
     case Ground_PR_provider_abort: n[1] = g->choice.provider_abort; break;

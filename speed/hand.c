@@ -1,4 +1,4 @@
-/* Reports, negative acks and periodic contracts by hand, from 01 and 02 (L1, L5), as one would write them in C for speed: the archive's second peer. Arguments,
+/* Reports, negative acks, event and periodic contracts by hand, from 01 and 02 (L1, L5, L7), as one would write them in C for speed: the archive's second peer. Arguments,
  * numbers, refusals and their order are those of adsc.h. A PDU of another kind is HAND_NOT_MINE, once its index is read or its kind is looked at. For gcc, and
  * for processors that have the lowest octet first, as x86-64. */
 #include <stdbool.h>
@@ -211,16 +211,38 @@ INLINE bool air(struct coder *c, uint32_t *n, uint8_t *list)
     }
 }
 
+/* A number of two kinds, each from 1 on. */
+INLINE bool either(struct coder *c, uint32_t *which, uint32_t *n, uint32_t first, uint32_t second)
+{
+    return number(c, which, 0, 1) && (*which ? number(c, n, 1, second) : number(c, n, 1, first));
+}
+
+INLINE bool level_range(struct coder *c, uint32_t *n)
+{
+    return number(c, n + ADSC_G_CEILING, -75, 10000) && number(c, n + ADSC_G_FLOOR, -75, 10000);
+}
+
+INLINE bool event_contract(struct coder *c, uint32_t *n)
+{
+    uint32_t *elements = n + ADSC_G_WHAT;
+    return extension(c) && mask(c, elements, 2047, 2047) && (*elements || refuse(c, ADSC_NO_ELEMENT))
+        && number_if(c, *elements & ADSC_ON_LATERAL_CHANGE, n + ADSC_G_LATERAL, 0, 2000)
+        && number_if(c, *elements & ADSC_ON_RATE_CHANGE, n + ADSC_G_RATE, -3000, 3000)
+        && (!(*elements & ADSC_ON_LEVEL_RANGE) || level_range(c, n))
+        && (!(*elements & ADSC_ON_AIR_SPEED_CHANGE) || either(c, n + ADSC_G_AIR_SPEED, n + ADSC_G_AIR_SPEED_CHANGE, 255, 700))
+        && number_if(c, *elements & ADSC_ON_GROUND_SPEED_CHANGE, n + ADSC_G_GROUND_SPEED, 0, 300)
+        && number_if(c, *elements & ADSC_ON_HEADING_CHANGE, n + ADSC_G_HEADING, 1, 3600)
+        && (!(*elements & ADSC_ON_PROFILE_CHANGE) || either(c, n + ADSC_G_EXTENDED_PROFILE, n + ADSC_G_EXTENDED_PROFILE_COUNT, 80, 128))
+        && number_if(c, *elements & ADSC_ON_TRACK_CHANGE, n + ADSC_G_TRACK, 1, 3600)
+        && number_if(c, *elements & ADSC_ON_LEVEL_CHANGE, n + ADSC_G_LEVEL, 1, 500);
+}
+
 /* An interval of 5 minutes is never written; one that is sent is read (02, L5). */
-INLINE bool ground(struct coder *c, uint32_t *n)
+INLINE bool periodic_contract(struct coder *c, uint32_t *n)
 {
     enum { CARRIED = ADSC_HAS_ADDRESS | ADSC_HAS_PROFILE | ADSC_HAS_GROUND_VECTOR | ADSC_HAS_AIR_VECTOR | ADSC_HAS_WEATHER };
     uint32_t *scale = n + ADSC_G_SCALE, *interval = n + ADSC_G_INTERVAL, *elements = n + ADSC_G_WHAT;
     uint32_t sent = *scale != ADSC_MINUTES || *interval != 5;
-    if (!extension(c) || !number(c, n + ADSC_G_KIND, 0, 7))
-        return false;
-    if (n[ADSC_G_KIND] != ADSC_PERIODIC_CONTRACT)
-        return refuse(c, HAND_NOT_MINE);
     if (!extension(c) || !number(c, &sent, 0, 1) || !mask(c, elements, 127, CARRIED))
         return false;
     if (sent) {
@@ -235,6 +257,17 @@ INLINE bool ground(struct coder *c, uint32_t *n)
         && number_if(c, *elements & ADSC_HAS_GROUND_VECTOR, n + ADSC_G_GROUND_VECTOR, 1, 255)
         && number_if(c, *elements & ADSC_HAS_AIR_VECTOR, n + ADSC_G_AIR_VECTOR, 1, 255)
         && number_if(c, *elements & ADSC_HAS_WEATHER, n + ADSC_G_WEATHER, 1, 255);
+}
+
+INLINE bool ground(struct coder *c, uint32_t *n)
+{
+    if (!extension(c) || !number(c, n + ADSC_G_KIND, 0, 7))
+        return false;
+    switch (n[ADSC_G_KIND]) {
+    case ADSC_EVENT_CONTRACT: return event_contract(c, n);
+    case ADSC_PERIODIC_CONTRACT: return periodic_contract(c, n);
+    default: return refuse(c, HAND_NOT_MINE);
+    }
 }
 
 /* ---- the calls */
@@ -284,6 +317,7 @@ uint8_t hand_read_air(const uint8_t *octets, size_t octets_length, uint32_t *num
 
 uint8_t hand_read_ground(const uint8_t *octets, size_t octets_length, uint32_t *numbers, size_t numbers_length)
 {
+    enum { REST = 2 * BLOCK / sizeof *numbers };    /* the numbers from here on fill no block */
     struct coder c = {.next = octets, .end = octets + octets_length};
     uint32_t n[ADSC_GROUND_NUMBERS] = {0};
     if (octets_length > ADSC_PDU_OCTETS)
@@ -292,8 +326,8 @@ uint8_t hand_read_ground(const uint8_t *octets, size_t octets_length, uint32_t *
         return c.refusal;
     if (numbers_length < ADSC_GROUND_NUMBERS)
         return ADSC_NO_ROOM;
-    copy(numbers, n, BLOCK);
-    numbers[8] = n[8];
+    copy(numbers, n, REST * sizeof *n);
+    memcpy(numbers + REST, n + REST, sizeof n - REST * sizeof *n);
     return ADSC_OK;
 }
 

@@ -13,9 +13,9 @@ import sys
 sys.path.insert(0, str(pathlib.Path(__file__).resolve().parents[1] / 'tests'))
 import percoder     # noqa: E402
 
-# Reports with the address at most, and with every part of every element.
-PLAIN = {'report': ['address'], 'emergency-report': ['address']}
-WHOLE = {'whole': ['report', 'ground-vector', 'air-vector', 'weather'], 'air-speed-index': 2}
+# Reports with the address at most, event contracts with what has no number; and with every part of every element.
+PLAIN = {'report': ['address'], 'emergency-report': ['address'], 'event-contract': ['waypoint-change', 'merit-change']}
+WHOLE = {'whole': ['report', 'ground-vector', 'air-vector', 'weather', 'event-contract'], 'air-speed-index': 2}
 
 # name, how many, family, PDU, what is fixed in it: numbers; the parts that a group of fields may have; groups that have all of theirs
 GROUPS = [
@@ -28,13 +28,15 @@ GROUPS = [
     ('noncompliance', 200, 'air', 'noncompliance', {}),
     ('other aircraft PDU', 100, 'air', ('cancel-emergency', 'positive-ack', 'provider-abort'), {}),
     ('demand contract', 100, 'ground', 'demand-contract', {}),
-    ('event contract', 100, 'ground', 'event-contract', {}),
+    ('event contract', 100, 'ground', 'event-contract', PLAIN),
     ('periodic contract', 200, 'ground', 'periodic-contract', {}),
     ('other ground PDU', 100, 'ground',
      ('cancel-all', 'cancel-contract', 'cancel-emergency-ack', 'modify-emergency', 'provider-abort'), {}),
     # behind the others, whose draws stay
     ('report, all elements', 200, 'air', ('demand-report', 'event-report', 'periodic-report'), WHOLE),
     ('report, any elements', 200, 'air', ('demand-report', 'emergency', 'event-report', 'periodic-report'), {}),
+    ('event, all elements', 100, 'ground', 'event-contract', WHOLE),
+    ('event, any elements', 100, 'ground', 'event-contract', {}),
 ]
 
 

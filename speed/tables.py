@@ -10,7 +10,7 @@ import sys
 
 REPORTS = ['demand report', 'emergency report', 'event report', 'periodic report', 'report, all elements', 'report, any elements']
 NAMES = ['negative ack, 16 names']
-CONTRACTS = ['demand contract', 'event contract', 'periodic contract']
+CONTRACTS = ['demand contract', 'event contract', 'periodic contract', 'event, all elements', 'event, any elements']
 # At most so many instructions for one of asn1c, and so many nanoseconds for one of the codec by hand.
 GOALS = [(what, group, most) for what, groups, most in (
     ('read', REPORTS, 0.06), ('read', NAMES, 0.12), ('read', CONTRACTS, 0.05),

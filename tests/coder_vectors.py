@@ -12,7 +12,7 @@ import itertools
 import os
 import sys
 
-from percoder import DEFAULTS, NEEDS_ONE, NOT_CARRIED, RANGES, TABLE, Writer, answer, pack, pieces, write
+from percoder import DEFAULTS, NEEDS_ONE, NOT_CARRIED, RANGES, TABLE, Writer, answer, pack, pieces, width, write
 from plaintext import REFUSALS
 
 P13 = '08' + '00' * 7 + '012c' + '00' * 4
@@ -75,6 +75,46 @@ LITERALS = [
     ('ground 4000', 'refused 15'),
     ('ground 4000ff', 'refused 15'),
     ('ground 40', 'refused 7'),
+    # Its elements, each alone, worked out by hand: the lowest, the highest and one above (002)
+    ('ground 44000000', 'ok 44000000'),     # lateral deviation 0, 2000, 2001 in 11 bits
+    ('ground 4400fa00', 'ok 4400fa00'),
+    ('ground 4400fa20', 'refused 8'),
+    ('ground 42000000', 'ok 42000000'),     # vertical rate -3000, 3000, 3001: 0, 6000, 6001 in 13 bits
+    ('ground 4200bb80', 'ok 4200bb80'),
+    ('ground 4200bb88', 'refused 8'),
+    ('ground 410000000000', 'ok 410000000000'),     # ceiling and floor -75; both 10000, 10075 in 14 bits; one of them 10001
+    ('ground 41009d6e75b0', 'ok 41009d6e75b0'),
+    ('ground 41009d7275b0', 'refused 8'),
+    ('ground 41009d6e75c0', 'refused 8'),
+    ('ground 410000027590', 'ok 410000027590'),     # 56: a ceiling below the floor
+    ('ground 40400000', 'ok 40400000'),     # Mach 1, 255, 256 in 8 bits behind a 0
+    ('ground 40407f00', 'ok 40407f00'),
+    ('ground 40407f80', 'refused 8'),
+    ('ground 40408000', 'ok 40408000'),     # IAS 1, 700, 701 in 10 bits behind a 1
+    ('ground 4040d760', 'ok 4040d760'),
+    ('ground 4040d780', 'refused 8'),
+    ('ground 40200000', 'ok 40200000'),     # ground speed 0, 300, 301 in 9 bits
+    ('ground 40209600', 'ok 40209600'),
+    ('ground 40209680', 'refused 8'),
+    ('ground 40100000', 'ok 40100000'),     # heading 1, 3600, 3601 in 12 bits
+    ('ground 4010e0f0', 'ok 4010e0f0'),
+    ('ground 4010e100', 'refused 8'),
+    ('ground 400800', 'ok 400800'),         # 56: time 1, 80, 81, 128 in 7 bits behind a 0
+    ('ground 40084f', 'ok 40084f'),
+    ('ground 400850', 'refused 8'),
+    ('ground 40087f', 'refused 8'),
+    ('ground 400880', 'ok 400880'),         # points 1, 80, 81, 128 in 7 bits behind a 1
+    ('ground 4008cf', 'ok 4008cf'),
+    ('ground 4008d0', 'ok 4008d0'),
+    ('ground 4008ff', 'ok 4008ff'),
+    ('ground 40020000', 'ok 40020000'),     # track angle, as heading
+    ('ground 4002e0f0', 'ok 4002e0f0'),
+    ('ground 4002e100', 'refused 8'),
+    ('ground 40010000', 'ok 40010000'),     # level change 1, 500, 501 in 9 bits
+    ('ground 4001f980', 'ok 4001f980'),
+    ('ground 4001fa00', 'refused 8'),
+    ('ground 4400', 'refused 7'),           # 7 before 8
+    ('ground 4400ff', 'refused 7'),
     # The longest readable line; the PDU is then over-long
     ('air ' + '00' * 2046, 'refused 16'),
     ('ground ' + '00' * 2044, 'refused 16'),
@@ -114,13 +154,18 @@ def longest(form, values):
 
 
 def patterns(form, optional):
-    """Parts that are there together: all, each alone in each of its shapes, none; of up to four every set of them."""
+    """Parts that are there together: all, each alone in each of its shapes, none; of up to four every set of them, of more all with one in another shape or
+    without one, and each two neighbours."""
     full = {name: longest(content, values) for name, content, values in optional}
     yield full
     yield from ({name: value} for name, _, values in optional for value in values)
     if len(optional) <= 4:
         for count in range(2, len(optional)):
             yield from ({name: full[name] for name in names} for names in itertools.combinations(full, count))
+    else:
+        yield from ({**full, name: value} for name, _, values in optional for value in values if value != full[name])
+        yield from ({name: full[name] for name in full if name != other} for other in full)
+        yield from ({name: full[name] for name in pair} for pair in zip(list(full), list(full)[1:]))
     if form not in NEEDS_ONE:
         yield {}
 
@@ -143,7 +188,8 @@ def shapes(form):
     optional = [(name, content, shapes(content)) for name, content in optional if content != NOT_CARRIED]
     base = [dict(zip([name for name, _ in required], values))
             for values in itertools.product(*(shapes(content) for _, content in required))]
-    return [{**need, **may} for may in patterns(form, optional) for need in base]
+    values = [{**need, **may} for may in patterns(form, optional) for need in base]
+    return list({repr(value): value for value in values}.values())     # each once, or those of the whole would be many times as many
 
 
 def numbers(seen, family, value):
@@ -253,16 +299,24 @@ def walked():
     for octets, wanted in defaults():
         yield 'ground', octets, wanted
     inside = {name for _, _, _, name in cut}
-    missed = [name for form in ('ground-vector', 'air-vector', 'mach-and-ias', 'weather') for name in parts_of(form) if name not in inside]
+    missed = [name for form in ('ground-vector', 'air-vector', 'weather', 'event-contract') for name in parts_of(form) if name not in inside]
     assert not missed, missed
 
 
 def parts_of(form):
-    """A group, its indexes and numbers, of those that have two bits or more."""
-    optional, required = TABLE[form][1:]
-    yield from [form] * (len(optional) > 1)
-    for _, content in optional + required:
-        yield TABLE[content][1] if content in TABLE else content
+    """A group, a choice or a number and what is in it: the names of pieces of two bits or more."""
+    if form in RANGES:
+        yield from [form] * (width(form) > 1)
+    elif form != 'null':
+        kind, *parts = TABLE[form]
+        if kind == 'choice':
+            index, contents = parts
+            yield from parts_of(index)
+        else:
+            yield from [form] * (len(parts[0]) > 1)
+            contents = parts[0] + parts[1]
+        for _, content in contents:
+            yield from parts_of(content)
 
 
 def main():

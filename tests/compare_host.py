@@ -103,11 +103,11 @@ class AbsentJudged(percoder.Writer):
 
 
 class AbsentElements(percoder.Writer):
-    """Vectors and weather that are absent are judged too."""
+    """Vectors, weather and other groups and choices that are absent are judged too."""
     def fields(self, form, value, optional, required):
         super().fields(form, value, optional, required)
         for name, content in optional:
-            if content in ('ground-vector', 'air-vector', 'weather') and name in value:
+            if content in ('ground-vector', 'air-vector', 'weather', 'level-range', 'air-speed-change', 'profile-request') and name in value:
                 percoder.Writer().write(content, value[name])
 
 
@@ -206,7 +206,7 @@ def changes():
     for name in hostmodel.SIGNED:
         yield f'writing: {name} without a sign', ruled(signed=tuple(other for other in hostmodel.SIGNED if other != name))
         yield f'writing: {name} sent plus one more', functools.partial(ranged, name, -1, -1)
-    for form, one, other in percoder.EXCHANGED:
+    for form, one, other in percoder.EXCHANGED + percoder.ALIKE:
         yield f'writing: {one} and {other} of {form} exchanged', functools.partial(exchanged, form, one, other)
     for form in ('ground-vector', 'air-vector', 'weather'):
         yield f'writing: no {form} with nothing in it', functools.partial(needing, form)
@@ -216,7 +216,8 @@ def changes():
     yield 'writing: one octet too few is room', ruled(short=1)
     yield 'writing: just enough is no room', ruled(short=-1)
     for name in percoder.RANGES:
-        if name not in ('octets', 'count', 'air-index', 'ground-index', 'negative-reason', 'noncompliance-index', 'interval-index', 'air-speed-index'):
+        if name not in ('octets', 'count', 'air-index', 'ground-index', 'negative-reason', 'noncompliance-index', 'interval-index', 'air-speed-index',
+                        'air-speed-change-index', 'profile-index'):
             yield f'writing: {name} ends one later', functools.partial(ranged, name, 0, 1)
             yield f'writing: {name} ends one sooner', functools.partial(ranged, name, 0, -1)
             yield f'writing: {name} begins one sooner', functools.partial(ranged, name, -1, 0)
@@ -257,8 +258,8 @@ def changes():
     yield 'records: 6 before 1 and 2', ruled(order=('bad_record', 'long_elapse', 'no_room', 'not_listed', 'bad_fields'))
     yield 'records: 6 before fields', ruled(order=('bad_record', 'long_elapse', 'not_listed', 'no_room', 'bad_fields'))
     yield 'records: fields before 1', ruled(order=('bad_record', 'long_elapse', 'bad_fields', 'not_listed', 'no_room'))
-    yield 'records: 21 octets are room', ruled(room=21)
-    yield 'records: 22 octets are no room', ruled(room=23)
+    yield 'records: 30 octets are room', ruled(room=30)
+    yield 'records: 31 octets are no room', ruled(room=32)
     yield 'records: a refused call changes the record', ruled(spoils=('link',))
     yield 'records: a refused call changes the answer', ruled(spoils=('out',))
 

@@ -26,18 +26,24 @@ CONSTANTS = {
                              "LONGITUDE_MINUTES", "LONGITUDE_TENTHS", "LEVEL", "YEAR", "MONTH", "DAY", "HAS_SECONDS", "HOURS", "MINUTES", "SECONDS", "ACCURACY",
                              "UNITS", "AVOIDANCE", "ADDRESS", "GROUND_PARTS", "TRACK", "GROUND_SPEED", "GROUND_RATE", "AIR_PARTS", "HEADING", "AIR_SPEED", "MACH",
                              "IAS", "AIR_RATE", "WEATHER_PARTS", "WIND_SPEED", "WIND_DIRECTION", "TEMPERATURE", "TURBULENCE")),
-        *("G_" + n for n in ("KIND", "WHAT", "SCALE", "INTERVAL", "ADDRESS", "PROFILE", "GROUND_VECTOR", "AIR_VECTOR", "WEATHER")))}, "ADSC_AIR_NUMBERS": "A_NUMBERS"},
+        *("G_" + n for n in ("KIND", "WHAT", "SCALE", "INTERVAL", "ADDRESS", "PROFILE", "GROUND_VECTOR", "AIR_VECTOR", "WEATHER", "LATERAL", "RATE", "CEILING", "FLOOR",
+                             "AIR_SPEED", "AIR_SPEED_CHANGE", "GROUND_SPEED", "HEADING", "EXTENDED_PROFILE", "EXTENDED_PROFILE_COUNT", "TRACK", "LEVEL")))},
+        "ADSC_AIR_NUMBERS": "A_NUMBERS", "ADSC_GROUND_NUMBERS": "G_NUMBERS"},
     "pdu/src/reasons.rt": {f"ADSC_{name}": name for name in (
         "PROVIDER_FAILURE", "INVALID_PDU", "SEQUENCE_ERROR", "TIMER_EXPIRY", "NO_CONTACT", "UNDEFINED_ERROR")},
     "pdu_parts/src/elements.rt": {
         **{f"ADSC_HAS_{name}": name for name in ("ADDRESS", "PROFILE", "GROUND_VECTOR", "AIR_VECTOR", "WEATHER")},
         **{f"ADSC_HAS_{name}": name for name in ("TRACK", "GROUND_SPEED", "GROUND_RATE", "HEADING", "AIR_SPEED", "AIR_RATE", "WIND_SPEED", "WIND_DIRECTION",
                                                  "TEMPERATURE", "TURBULENCE")},
-        "ADSC_URGENT_HAS_ADDRESS": "EMERGENCY_ADDRESS", "ADSC_URGENT_HAS_GROUND_VECTOR": "EMERGENCY_GROUND_VECTOR", "ADSC_ON_WAYPOINT_CHANGE": "WAYPOINT_CHANGE", "ADSC_ON_MERIT_CHANGE": "MERIT_CHANGE"},
+        "ADSC_URGENT_HAS_ADDRESS": "EMERGENCY_ADDRESS", "ADSC_URGENT_HAS_GROUND_VECTOR": "EMERGENCY_GROUND_VECTOR"},
+    "pdu_events/src/elements.rt": {f"ADSC_ON_{name}": name for name in (
+        "LATERAL_CHANGE", "RATE_CHANGE", "LEVEL_RANGE", "WAYPOINT_CHANGE", "AIR_SPEED_CHANGE", "GROUND_SPEED_CHANGE", "HEADING_CHANGE", "PROFILE_CHANGE",
+        "MERIT_CHANGE", "TRACK_CHANGE", "LEVEL_CHANGE")},
     "log/src/lib.rt": {"ADSC_BLOCK_OCTETS": "BLOCK", "ADSC_PAYLOAD_MOST": "ROOM", "ADSC_KEPT_MOST": "KEPT", "ADSC_BLOCKS_MOST": "BLOCKS"},
     "log_play/src/record.rt": {"ADSC_SETTINGS_OCTETS": "SETTINGS"},
     "host_record/src/record.rt": {"ADSC_LINK_OCTETS": "RECORD"},
     "host_record/src/answer.rt": {"ADSC_ANSWER_OCTETS": "ANSWER"},
+    "ground_answer/src/sent.rt": {"ADSC_SENT_MOST": "SENT_MOST"},
     "ground_answer/src/answer.rt": {"ADSC_START_REQUEST": "START_REQUEST", "ADSC_END_REQUEST": "END_REQUEST", "ADSC_LATE": "LATE"},
     "link/src/actions.rt": {
         "ADSC_DATA_REQUEST": "DATA_REQUEST", "ADSC_ABORT_REQUEST": "ABORT_REQUEST", "ADSC_INDICATION": "IND", "ADSC_ABORT_INDICATION": "ABORT_IND",
@@ -77,6 +83,10 @@ ARRAYS = [
     ("host_numbers/src/uplink.rt", "flat_periodic", "ADSC_GROUND_NUMBERS", {
         "ADSC_G_KIND": "6", "ADSC_G_WHAT": "a.elements", "ADSC_G_SCALE": "scale", "ADSC_G_INTERVAL": "times", "ADSC_G_ADDRESS": "a.address",
         "ADSC_G_PROFILE": "a.profile", "ADSC_G_GROUND_VECTOR": "a.ground", "ADSC_G_AIR_VECTOR": "a.air", "ADSC_G_WEATHER": "a.weather"}),
+    ("host_numbers/src/changes.rt", "flat_changes", "ADSC_GROUND_NUMBERS", {
+        "ADSC_G_WHAT": "a.elements", "ADSC_G_LATERAL": "a.lateral", "ADSC_G_RATE": "climb", "ADSC_G_CEILING": "top", "ADSC_G_FLOOR": "low",
+        "ADSC_G_AIR_SPEED": "air.kind", "ADSC_G_AIR_SPEED_CHANGE": "air.number", "ADSC_G_GROUND_SPEED": "a.ground", "ADSC_G_HEADING": "a.heading",
+        "ADSC_G_EXTENDED_PROFILE": "profile.kind", "ADSC_G_EXTENDED_PROFILE_COUNT": "profile.number", "ADSC_G_TRACK": "a.track", "ADSC_G_LEVEL": "a.level"}),
     ("host_numbers/src/reports.rt", "fix_numbers", None, {
         "ADSC_A_KIND": "kind", "ADSC_A_WHAT": "bit(ack)", "ADSC_A_DETAIL": "event", "ADSC_A_ELEMENTS": "elements", "ADSC_A_SOUTH": "bit(la.minus)",
         "ADSC_A_LATITUDE": "la.degrees", "ADSC_A_LATITUDE_MINUTES": "la.minutes", "ADSC_A_LATITUDE_TENTHS": "la.tenths", "ADSC_A_WEST": "bit(lo.minus)",
@@ -84,8 +94,6 @@ ARRAYS = [
         "ADSC_A_YEAR": "t.year", "ADSC_A_MONTH": "t.month", "ADSC_A_DAY": "t.day", "ADSC_A_HAS_SECONDS": "bit(t.has_seconds)", "ADSC_A_HOURS": "t.hours",
         "ADSC_A_MINUTES": "t.minutes", "ADSC_A_SECONDS": "t.seconds", "ADSC_A_ACCURACY": "m.accuracy", "ADSC_A_UNITS": "bit(m.units)",
         "ADSC_A_AVOIDANCE": "bit(m.avoidance)", "ADSC_A_ADDRESS": "address"}),
-    ("host_record/src/answer.rt", "answer_octets", "ADSC_ANSWER_OCTETS", {
-        "ADSC_ANSWER_REASON": "q[0]", "ADSC_ANSWER_ACTIONS": "n", "ADSC_ANSWER_SENT": "m"}),
 ]
 
 # Numbers that stand in the text of a function or a type.
@@ -95,6 +103,8 @@ TEXTS = {
         "ADSC_LINK_DC": r"out\[(\d+)\] = at\[0\]", "ADSC_LINK_EC": r"out\[(\d+)\] = at\[1\]", "ADSC_LINK_PC": r"out\[(\d+)\] = at\[2\]",
         "ADSC_LINK_EM": r"out\[(\d+)\] = at\[3\]", "ADSC_LINK_LI": r"out\[(\d+)\] = at\[4\]",
         "ADSC_LINK_ASKED": r"\basked(?: =|:) read_word\(s, (\d+)\)", "ADSC_LINK_FORCE": r"\bforce(?: =|:) read_word\(s, (\d+)\)"},
+    "host_record/src/answer.rt": {
+        "ADSC_ANSWER_REASON": r"f\[(\d+)\] = q\[0\];", "ADSC_ANSWER_ACTIONS": r"f\[(\d+)\] = n;", "ADSC_ANSWER_SENT": r"f\[(\d+)\] = m;"},
     "link/src/watch.rt": {"ADSC_SECONDS_MOST": r"x <= (\d+)"},
     "host_numbers/src/copy.rt": {"ADSC_LIST_OCTETS": r"fn items_of\(.*\) -> \[u8; (\d+)\]"},
 }

@@ -134,6 +134,24 @@ static void lend_settings(void)
             words(&settings)[i] = chance(20) * chance(20) + 1;
 }
 
+/* Any elements of an event contract, none and all of them too. */
+static void event_numbers(uint32_t *n)
+{
+    n[ADSC_G_WHAT] = one_in(8) ? 0 : one_in(4) ? 2 * ADSC_ON_LATERAL_CHANGE - 1 : chance(2 * ADSC_ON_LATERAL_CHANGE);
+    n[ADSC_G_LATERAL] = chance(2001);
+    n[ADSC_G_RATE] = chance(6001) - 3000;
+    n[ADSC_G_CEILING] = chance(10076) - 75;
+    n[ADSC_G_FLOOR] = chance(10076) - 75;
+    n[ADSC_G_AIR_SPEED] = chance(2);
+    n[ADSC_G_AIR_SPEED_CHANGE] = 1 + chance(n[ADSC_G_AIR_SPEED] == ADSC_SPEED_IAS ? 700 : 255);
+    n[ADSC_G_GROUND_SPEED] = chance(301);
+    n[ADSC_G_HEADING] = 1 + chance(3600);
+    n[ADSC_G_EXTENDED_PROFILE] = chance(2);
+    n[ADSC_G_EXTENDED_PROFILE_COUNT] = 1 + chance(n[ADSC_G_EXTENDED_PROFILE] == ADSC_PROFILE_WAYPOINTS ? 128 : 80);
+    n[ADSC_G_TRACK] = 1 + chance(3600);
+    n[ADSC_G_LEVEL] = 1 + chance(500);
+}
+
 /* Numbers of a ground PDU, most of them in range. */
 static void ground_numbers(uint32_t *n)
 {
@@ -141,7 +159,7 @@ static void ground_numbers(uint32_t *n)
     n[ADSC_G_KIND] = chance(one_in(20) ? 12 : 8);
     switch (n[ADSC_G_KIND]) {
     case ADSC_CANCEL_CONTRACT: n[ADSC_G_WHAT] = chance(one_in(10) ? 4 : 2); break;
-    case ADSC_EVENT_CONTRACT: n[ADSC_G_WHAT] = chance(2) * ADSC_ON_WAYPOINT_CHANGE + chance(2) * ADSC_ON_MERIT_CHANGE; break;
+    case ADSC_EVENT_CONTRACT: event_numbers(n); break;
     case ADSC_GROUND_ABORT: n[ADSC_G_WHAT] = chance(8); break;
     default: n[ADSC_G_WHAT] = one_in(8) ? chance(128) : chance(32) * ADSC_HAS_WEATHER;
     }

@@ -14,7 +14,7 @@ import hostmodel
 import linkmodel
 import logmaking
 import logmodel
-from hostmodel import AIR, CALLS, GROUND, INTERVAL_MOST, INTERVALS, LINK_OCTETS, STATES, Calling, Record, grounds, link_of, spelt, taken_apart, written
+from hostmodel import AIR, ANSWER_OCTETS, CALLS, GROUND, INTERVAL_MOST, INTERVALS, LINK_OCTETS, STATES, Calling, Record, grounds, link_of, spelt, taken_apart, written
 from linkscripts import Pool
 from percoder import RANGES
 
@@ -43,12 +43,17 @@ WHAT = {'cancel-contract': 'cancel-contract', 'provider-abort': 'abort-reason', 
 ENTRIES = ('report-type', 'noncompliance-event-type', 'report-type-and-period')
 
 # Presence bits as a host gives them: how many, and which are carried.
-MASKS = {'demand-contract': (7, 0x7c), 'periodic-contract': (7, 0x7c), 'event-contract': (11, 0x84), 'emergency': (2, 3),
+MASKS = {'demand-contract': (7, 0x7c), 'periodic-contract': (7, 0x7c), 'event-contract': (11, 0x7ff), 'emergency': (2, 3),
          **dict.fromkeys(('demand-report', 'event-report', 'periodic-report'), (7, 0x5c)),
          **{parts: (len(fields), (1 << len(fields)) - 1) for parts, fields in PARTS.items()}}
-MODULI = dict(zip(GROUND[4:], (64, 32, 16, 8, 4)))
+MODULI = dict(zip(hostmodel.MODULI, (64, 32, 16, 8, 4)))
+# The numbers of an event contract by the bits that announce them; two of them are of the kind that stands before them.
+EVENTS = {1024: ('lateral-deviation',), 512: ('rate-change',), 256: ('ceiling', 'floor'), 64: ('air-speed-kind', 'air-speed-change'),
+          32: ('ground-speed-change',), 16: ('heading-change',), 8: ('profile-kind', 'profile-count'), 2: ('track-change',), 1: ('level-change',)}
+EVENT_KINDS = {'air-speed-kind': 'air-speed-change-index', 'profile-kind': 'profile-index'}
+AMOUNTS = {'air-speed-change': ('air-speed-kind', ('mach-change', 'ias-change')), 'profile-count': ('profile-kind', ('profile-time', 'profile-points'))}
 # These say what else there is.
-SAYING = ('what', 'scale', 'detail', 'elements', 'has-seconds', *PARTS, 'air-speed')
+SAYING = ('what', 'scale', 'detail', 'elements', 'has-seconds', *PARTS, 'air-speed', *EVENT_KINDS)
 COUNTS = (17, 18, 255, 256, 257, TOP - 1)
 
 
@@ -71,6 +76,13 @@ def parts_of(element, n):
             yield from ((speed, speed) for speed in SPEEDS.get(n['air-speed'], ()) if name == 'air-speed')
 
 
+def change_range(place, n):
+    if place in AMOUNTS:
+        kind, forms = AMOUNTS[place]
+        return forms[n[kind] % 2]
+    return EVENT_KINDS.get(place, place)
+
+
 def fields_of(family, kind, n):
     """place -> range, or 'mask', 'count' and 'entries', of what this PDU has."""
     if family == 'ground':
@@ -79,6 +91,8 @@ def fields_of(family, kind, n):
             found.update(scale='interval-index', interval=('interval-seconds', 'interval-minutes')[n['scale'] % 2])
         if kind == 'periodic-contract':
             found.update((name, 'modulus') for name, bit in MODULI.items() if n['what'] & bit)
+        if kind == 'event-contract':
+            found.update((name, change_range(name, n)) for bit, names in EVENTS.items() if n['what'] & bit for name in names)
         return found
     found = {'what': WHAT[kind]} if kind in WHAT else {}
     if kind in REPORTS:
@@ -112,6 +126,7 @@ class Pdu:
             self.n.update({parts: MASKS[parts][1] for parts in PARTS} if kind in REPORTS else {})
             self.n.update({'detail': 2} if kind == 'negative-ack' else {})
             self.n.update({'what': 0x7c} if kind == 'periodic-contract' else {})
+            self.n.update({'what': 0x7ff, **{place: rng.randrange(2) for place in EVENT_KINDS}} if kind == 'event-contract' else {})
         for place in self.fields():
             if place not in (*SAYING, 'entries'):
                 self.n[place] = max(self.good(place), 1) if full and place == 'count' else self.good(place)
@@ -220,6 +235,15 @@ def room_lines(rng, met):
                 yield pdu.line(room)
 
 
+def family_of(kind):
+    return next(family for family, kinds in KINDS.items() if kind in kinds)
+
+
+def ends(form):
+    low, high = RANGES[form]
+    return low - 1, low, high, high + 1
+
+
 def signed_edges(place):
     low, high = RANGES[place]
     return (low - 1, low, -1, 0, high, high + 1, -2 ** 31)
@@ -227,9 +251,9 @@ def signed_edges(place):
 
 def other_lines(rng, met):
     """Levels and other signed numbers, sets of parts, lists, kinds and lengths of their own."""
-    for place, kind in itertools.product(hostmodel.SIGNED, REPORTS):
-        for number in signed_edges(place):
-            pdu = Pdu(rng, 'air', kind, True)
+    for place, kind in itertools.product(hostmodel.SIGNED, (*REPORTS, 'event-contract')):
+        for number in signed_edges(place) if place in PLACES[family_of(kind)] else ():
+            pdu = Pdu(rng, family_of(kind), kind, True)
             pdu.n[place] = number % TOP
             met[f'{place} {number}'] += 1
             yield pdu.line(128)
@@ -239,6 +263,18 @@ def other_lines(rng, met):
             pdu.n[parts], pdu.n['air-speed'] = some, speed
             met[f'{kind}: {parts} {some}'] += 1
             yield pdu.line(128)
+    for place, (which, forms) in AMOUNTS.items():
+        for kind, form in enumerate((*forms, forms[0])):                # the last kind names nothing
+            for number in ends(form):
+                pdu = Pdu(rng, 'ground', 'event-contract', True)
+                pdu.n[which], pdu.n[place] = kind, number % TOP
+                met[f'{place} of kind {kind}: {number}'] += 1
+                yield pdu.line(128)
+    for what in (*EVENTS, 128, 4, *(0x7ff - bit for bit in EVENTS)):
+        pdu = Pdu(rng, 'ground', 'event-contract', True)
+        pdu.n['what'] = what
+        met[f'event contract of {what:03x}'] += 1
+        yield pdu.line(128)
     for kind, count, short in itertools.product(('negative-ack', 'noncompliance'), (0, 1, 15, 16, *COUNTS), (False, True)):
         pdu = Pdu(rng, 'air', kind, True)
         pdu.n['count'] = count
@@ -434,7 +470,7 @@ class Records:
             pdu.n['what'] = 0
         if self.rng.random() < 0.05:
             pdu.n['kind'] = self.rng.choice((8, 255, TOP - 1))
-        return pdu.numbers()[:self.rng.choice((9, 9, 9, 4, 12))]
+        return pdu.numbers()[:self.rng.choice((21, 21, 21, 9, 4, 24))]
 
     def octets(self, record):
         """What may come: mostly what the states have a row for."""
@@ -442,7 +478,7 @@ class Records:
         event = rng.choice(rows if rows and rng.random() < 0.6 else linkmodel.DOWNLINK)
         return rng.choice(self.pool.bad['air'] if rng.random() < 0.1 else self.pool.of[event])
 
-    def make(self, word, name, record, octets=None, numbers=None, room=(22, 22, 22, 22, 23, 40, 21, 0)):
+    def make(self, word, name, record, octets=None, numbers=None, room=(*(ANSWER_OCTETS,) * 4, ANSWER_OCTETS + 1, ANSWER_OCTETS + 18, ANSWER_OCTETS - 1, 0)):
         if numbers is None:
             numbers = [self.seconds(record)] if word == 'elapse' else self.request(record) if word == 'request' else []
         if octets is None:
@@ -463,14 +499,14 @@ class Records:
             record = spelt(self.with_pc(state, 'ACTIVE', em))
             if event in ASKING:
                 for numbers in ASKING[event]:
-                    self.make('request', event, record, numbers=numbers, room=(22,))
+                    self.make('request', event, record, numbers=numbers, room=(ANSWER_OCTETS,))
             else:
-                self.make('data', event, record, self.rng.choice(self.pool.of[event]), room=(22,))
+                self.make('data', event, record, self.rng.choice(self.pool.of[event]), room=(ANSWER_OCTETS,))
         for state, word, em in itertools.product(STATES['PC'][1:], CALLS, (False, True)):
             record = self.with_pc(state, 'START' if word.startswith('start') else 'ACTIVE', em)
             numbers = {'elapse': [min(left for left in record.left if left)], 'request': CANCEL_ALL}.get(word, [])
             if word != 'end_confirm':
-                self.make(word, 'to IDLE', spelt(record), self.rng.choice(self.pool.bad['air']) if word in BRINGING else b'', numbers, (22,))
+                self.make(word, 'to IDLE', spelt(record), self.rng.choice(self.pool.bad['air']) if word in BRINGING else b'', numbers, (ANSWER_OCTETS,))
 
     def open(self):
         rng = self.rng
@@ -481,7 +517,7 @@ class Records:
         elif draw < 0.6:
             numbers = (numbers * 2)[:rng.choice((0, 8, 10))]
         link = rng.randbytes(rng.choice((LINK_OCTETS,) * 4 + SIZES))
-        self.lines.append(line_of('open', link, b'', rng.randbytes(rng.choice((0, 22))), numbers))
+        self.lines.append(line_of('open', link, b'', rng.randbytes(rng.choice((0, ANSWER_OCTETS))), numbers))
         self.met['open'] += 1
 
     def all(self, count):
@@ -708,6 +744,9 @@ WRITING_DUE = ([f'{place} {number}' for place in hostmodel.SIGNED for number in 
                   for place, _ in PARTS[parts] for edge in ('below', 'low', 'high', 'above')]
                + [f'air {kind}: {place} {edge}' for kind in REPORTS[:1] + REPORTS[2:] for place in ('mach', 'ias')
                   for edge in ('below', 'low', 'high', 'above')]
+               + [f'ground event-contract: {place} {edge}' for names in EVENTS.values() for place in names for edge in ('below', 'low', 'high', 'above')]
+               + [f'{place} of kind {kind}: {number}' for place, (_, forms) in AMOUNTS.items() for kind, form in enumerate(forms) for number in ends(form)]
+               + [f'event contract of {bit:03x}' for bit in (*EVENTS, 128, 4)]
                + [f'{kind}: a list of {count}' for kind in ('negative-ack', 'noncompliance') for count in (16, *COUNTS)]
                + [f'a character {octet}' for octet in (127, 128, 255)] + ['an entry 0 over', 'an entry 1 over']
                + [f'{family} {kind}: room {room}' for family, kind in ALL_KINDS for room in (-1, 'for it')]

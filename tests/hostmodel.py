@@ -24,13 +24,15 @@ from percoder import PRESENCE, TABLE
 BEFORE = 999
 
 # Numbers of a ground PDU and of an aircraft PDU, by their places (enum adsc_ground_place, enum adsc_air_place).
-GROUND = ('kind', 'what', 'scale', 'interval', 'address', 'projected-profile', 'ground-vector', 'air-vector', 'weather')
+MODULI = ('address', 'projected-profile', 'ground-vector', 'air-vector', 'weather')
+GROUND = ('kind', 'what', 'scale', 'interval', *MODULI, 'lateral-deviation', 'rate-change', 'ceiling', 'floor', 'air-speed-kind', 'air-speed-change',
+          'ground-speed-change', 'heading-change', 'profile-kind', 'profile-count', 'track-change', 'level-change')
 AIR = ('kind', 'what', 'detail', 'count', 'elements', 'south', 'latitude', 'latitude-minutes', 'latitude-tenths', 'west', 'longitude',
        'longitude-minutes', 'longitude-tenths', 'level', 'year', 'month', 'day', 'has-seconds', 'hours', 'minutes', 'seconds', 'accuracy',
        'units', 'avoidance', 'address', 'ground-parts', 'track', 'ground-speed', 'ground-rate', 'air-parts', 'heading', 'air-speed', 'mach', 'ias',
        'air-rate', 'weather-parts', 'wind-speed', 'wind-direction', 'temperature', 'turbulence')
-SIGNED = ('level', 'ground-speed', 'ground-rate', 'air-rate', 'temperature')     # "in two's complement"
-LINK_OCTETS, ANSWER_OCTETS, TIMERS = 85, 22, 9
+SIGNED = ('level', 'ground-speed', 'ground-rate', 'air-rate', 'temperature', 'rate-change', 'ceiling', 'floor')      # "in two's complement"
+LINK_OCTETS, ANSWER_OCTETS, SENT_MOST, TIMERS = 85, 31, 17, 9
 
 # The states of a record, by their numbers (enum adsc_dc_state and the four below it).
 STATES = {
@@ -124,25 +126,39 @@ def named(names, number):
     return names[number] if number < len(names) else 'nothing'
 
 
-def ground_value(numbers):
+def signed(number):
+    return number - (1 << 32 if number >> 31 else 0)
+
+
+def reading(n, rules):
+    """How a number is read that may have a sign."""
+    return lambda name: signed(n[name]) if name in rules.signed else n[name]
+
+
+def changes_of(n, number):
+    """What an event contract has."""
+    return {PRESENCE: n['what'], 'lateral-deviation': n['lateral-deviation'], 'vertical-rate': number('rate-change'),
+            'level-range': {'ceiling': number('ceiling'), 'floor': number('floor')}, 'waypoint-change': None,
+            'air-speed': (named(('mach', 'ias'), n['air-speed-kind']), n['air-speed-change']), 'ground-speed': n['ground-speed-change'],
+            'heading': n['heading-change'], 'extended-profile': (named(('time', 'points'), n['profile-kind']), n['profile-count']),
+            'merit-change': None, 'track': n['track-change'], 'level': n['level-change']}
+
+
+def ground_value(numbers, rules=RULES):
     n = flat(GROUND, numbers)
     interval = (named(('seconds', 'minutes'), n['scale']), n['interval'])
     sent = interval != percoder.DEFAULTS['periodic-contract', 'interval']
-    moduli = {name: n[name] for name in GROUND[4:]}
+    moduli = {name: n[name] for name in MODULI}
     name = named([name for name, _ in TABLE['ground'][2]], n['kind'])
     return name, {
         'cancel-contract': n['what'],
         'demand-contract': {PRESENCE: n['what'], **dict.fromkeys(moduli)},
-        'event-contract': {PRESENCE: n['what'], 'waypoint-change': None, 'merit-change': None},
+        'event-contract': changes_of(n, reading(n, rules)),
         'modify-emergency': interval,
         # one presence bit more than the host gives, for the interval
         'periodic-contract': {PRESENCE: n['what'] + 128 * sent if n['what'] < 128 else -1, 'interval': interval, **moduli},
         'provider-abort': n['what'],
     }.get(name)
-
-
-def signed(number):
-    return number - (1 << 32 if number >> 31 else 0)
 
 
 def vectors_of(n, number, rules):
@@ -160,9 +176,7 @@ def report_of(n, rules, kind):
     def angle(sign, name):
         return {'sign': n[sign], 'degrees': n[name], 'minutes': n[name + '-minutes'], 'tenths': n[name + '-tenths']}
 
-    def number(name):
-        return signed(n[name]) if name in rules.signed else n[name]
-
+    number = reading(n, rules)
     elements = {'address': n['address'], **vectors_of(n, number, rules)}
     return {PRESENCE: n['elements'], **{name: elements[name] for name, _ in TABLE[kind][1] if name in elements},
             'position': {'latitude': angle('south', 'latitude'), 'longitude': angle('west', 'longitude'), 'level': number('level')},
@@ -294,7 +308,7 @@ def answer_octets(entries):
             actions.append(ACTIONS.get(entry) or ACTIONS[word])
             sent = sent or (bytes.fromhex(rest) if word.endswith('-req') else b'')      # "goes with its first request"
     return (reason.to_bytes(4, 'big') + bytes([len(actions)]) + bytes(actions).ljust(8, b'\0')
-            + bytes([len(sent)]) + sent.ljust(8, b'\0'))
+            + bytes([len(sent)]) + sent.ljust(SENT_MOST, b'\0'))
 
 
 class Calling:
@@ -465,7 +479,7 @@ def parts(line):
 
 def call(word, link, octets, out, numbers, rules=RULES):
     if word == 'write_ground':
-        return write('ground', ground_value(numbers), link, out, rules)
+        return write('ground', ground_value(numbers, rules), link, out, rules)
     if word == 'write_air':
         return write('air', air_value(numbers, octets, rules), link, out, rules)
     if word == 'open':

@@ -1,5 +1,5 @@
-"""A PER coder of both ADS PDU families, written from page 01; vectors and weather from the module of 002 (02, L1), and the interval
-of 5 minutes from L5 of 02.
+"""A PER coder of both ADS PDU families, written from page 01; vectors and weather from the module of 002 (02, L1), the interval
+of 5 minutes from L5 of 02, and the elements of an event contract from the module of 002 (02, L7).
 
 It shares nothing with the box it is compared with. First the message table of 01, as data in the
 page's order and words; below it a coder that walks the table (ITU-T X.691, basic unaligned).
@@ -64,6 +64,20 @@ RANGES = {
     'interval-seconds': (1, 59),
     'interval-minutes': (1, 120),
     'modulus': (1, 255),
+    'lateral-deviation': (0, 2000),         # 002:4234
+    'rate-change': (-3000, 3000),           # 002:4277
+    'ceiling': (-75, 10000),                # 002:4442, as is the floor
+    'floor': (-75, 10000),
+    'air-speed-change-index': (0, 1),
+    'mach-change': (1, 255),                # 002:4179
+    'ias-change': (1, 700),
+    'ground-speed-change': (0, 300),        # 002:4222
+    'heading-change': (1, 3600),            # 002:4195
+    'profile-index': (0, 1),
+    'profile-time': (1, 80),                # 002:4214
+    'profile-points': (1, 128),
+    'track-change': (1, 3600),
+    'level-change': (1, 500),               # 002:4186
 }
 
 NOT_CARRIED = 'not carried'
@@ -138,11 +152,15 @@ TABLE = {
     'demand-contract': ('fields', [
         ('address', 'null'), ('projected-profile', 'null'), ('ground-vector', 'null'), ('air-vector', 'null'),
         ('weather', 'null'), ('short-term-intent', NOT_CARRIED), ('extended-profile', NOT_CARRIED)], []),
+    # 002, "EventContract", "AirSpeedChange", "LevelRange", "ExtendedProjectedProfileRequest"
     'event-contract': ('fields', [
-        ('element-1', NOT_CARRIED), ('element-2', NOT_CARRIED), ('element-3', NOT_CARRIED),
-        ('waypoint-change', 'null'), ('element-5', NOT_CARRIED), ('element-6', NOT_CARRIED),
-        ('element-7', NOT_CARRIED), ('element-8', NOT_CARRIED), ('merit-change', 'null'),
-        ('element-10', NOT_CARRIED), ('element-11', NOT_CARRIED)], []),
+        ('lateral-deviation', 'lateral-deviation'), ('vertical-rate', 'rate-change'), ('level-range', 'level-range'),
+        ('waypoint-change', 'null'), ('air-speed', 'air-speed-change'), ('ground-speed', 'ground-speed-change'),
+        ('heading', 'heading-change'), ('extended-profile', 'profile-request'), ('merit-change', 'null'),
+        ('track', 'track-change'), ('level', 'level-change')], []),
+    'level-range': ('fields', [], [('ceiling', 'ceiling'), ('floor', 'floor')]),
+    'air-speed-change': ('choice', 'air-speed-change-index', [('mach', 'mach-change'), ('ias', 'ias-change')]),
+    'profile-request': ('choice', 'profile-index', [('time', 'profile-time'), ('points', 'profile-points')]),
     'periodic-contract': ('fields', [
         ('interval', 'interval'), ('address', 'modulus'), ('projected-profile', 'modulus'),
         ('ground-vector', 'modulus'), ('air-vector', 'modulus'), ('weather', 'modulus'),
@@ -371,8 +389,8 @@ def shift(name):
 
 
 def exchange(form, one, other):
-    """Two fields of a group in each other's place, with their presence bits."""
-    for part in TABLE[form][1:]:
+    """Two fields of a group in each other's place, with their presence bits; or two alternatives of a choice."""
+    for part in TABLE[form][2 if TABLE[form][0] == 'choice' else 1:]:
         places = [place for place, (name, _) in enumerate(part) if name in (one, other)]
         for place, field in zip(places, [part[place] for place in reversed(places)]):
             part[place] = field
@@ -401,15 +419,24 @@ class RefusingReader(Reader):
         return value
 
 
-# Rules of vectors and weather and of the default changed, each alone, to test that a comparison finds it. Only a line for a person or a host's numbers show an
-# offset, only octets that are written back how they were sent.
+# Rules of vectors and weather, of the default and of event contracts changed, each alone, to test that a comparison finds it. Only a line for a person or a
+# host's numbers show an offset and an exchange of two fields of one range, only octets that are written back how they were sent.
+EVENT_ELEMENTS = [name for name, _ in TABLE['event-contract'][1]]
 EXCHANGED = [('report', 'ground-vector', 'air-vector'), ('report', 'air-vector', 'weather'), ('report', 'address', 'ground-vector'),
              ('report', 'weather', 'short-term-intent'), ('report', 'projected-profile', 'ground-vector'),
              ('emergency-report', 'address', 'ground-vector'), ('ground-vector', 'track', 'speed'), ('ground-vector', 'speed', 'rate'),
              ('air-vector', 'heading', 'speed'), ('air-vector', 'heading', 'rate'), ('mach-and-ias', 'mach', 'ias'),
-             ('weather', 'speed', 'direction'), ('weather', 'temperature', 'turbulence')]
-OFFSETS = {f'{name}.offset': functools.partial(offset, name) for name in (
-    'track', 'ground-speed', 'ground-rate', 'heading', 'mach', 'air-rate', 'wind-direction', 'temperature')}
+             ('weather', 'speed', 'direction'), ('weather', 'temperature', 'turbulence'),
+             *(('event-contract', one, other) for one, other in zip(EVENT_ELEMENTS, EVENT_ELEMENTS[1:])),
+             ('air-speed-change', 'mach', 'ias'), ('profile-request', 'time', 'points')]
+ALIKE = [('level-range', 'ceiling', 'floor'), ('event-contract', 'heading', 'track')]
+OFFSETS = {
+    **{f'{name}.offset': functools.partial(offset, name) for name in (
+        'track', 'ground-speed', 'ground-rate', 'heading', 'mach', 'air-rate', 'wind-direction', 'temperature',
+        'lateral-deviation', 'rate-change', 'ceiling', 'floor', 'mach-change', 'ias-change', 'ground-speed-change', 'heading-change',
+        'profile-time', 'profile-points', 'track-change', 'level-change')},
+    **{f'{form}.{one}.{other}': functools.partial(exchange, form, one, other) for form, one, other in ALIKE},
+}
 SENDING = {'default.written-as-sent': lambda: globals().update(written_back=lambda family, octets, value: octets)}
 CHANGES = {
     'default.refused': lambda: globals().update(Reader=RefusingReader),
@@ -419,6 +446,7 @@ CHANGES = {
     **{f'{form}.needs-one': functools.partial(NEEDS_ONE.add, form) for form in ('ground-vector', 'air-vector', 'weather')},
     **{f'{form}.{name}.extension': functools.partial(extend, form, name) for form, name in (
         ('report', 'ground-vector'), ('report', 'air-vector'), ('report', 'weather'), ('emergency-report', 'ground-vector'),
-        ('air-vector', 'speed'))},
+        ('air-vector', 'speed'), ('event-contract', 'level-range'), ('event-contract', 'air-speed'), ('event-contract', 'extended-profile'))},
+    'event-contract.needs-none': functools.partial(NEEDS_ONE.remove, 'event-contract'),
     **OFFSETS,
 }

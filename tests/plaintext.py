@@ -52,7 +52,6 @@ WORDS = {table: [words(name) for name in names.split()] for table, names in NAME
 WORDS['refusal'] = [REFUSALS.get(number, '') for number in range(18)]
 # In the order in which contracts and reports name their elements, and percoder's names of them.
 ELEMENTS = ['address', 'projected-profile', 'ground-vector', 'air-vector', 'weather']
-EVENTS = {3: 'waypoint-change', 8: 'merit-change'}
 CONTRACTS = {'demand': 2, 'event': 0, 'periodic': 1}    # as request types
 
 
@@ -71,7 +70,7 @@ def times_ten(number):
 
 
 def tenths(number):
-    return f'{number // 10}.{number % 10}'              # 002: units of 0.1 degree; 1 and more
+    return f'{number // 10}.{number % 10}'              # 002: units of 0.1 degree or nautical mile; never below 0
 
 
 def mach(number):
@@ -179,11 +178,40 @@ def modulus(number):
 
 def contract(kind, value):
     yield WORDS['request-type'][CONTRACTS[kind]] + (' ' + interval(value['interval']) if kind == 'periodic' else '')
-    if kind == 'event':
-        yield from (WORDS['event-type'][number] for number, name in EVENTS.items() if name in value)
     for number, name in enumerate(ELEMENTS):
-        if kind != 'event' and name in value:
+        if name in value:
             yield WORDS['report-type'][number] + (' ' + modulus(value[name]) if kind == 'periodic' else '')
+
+
+def air_speed_change(value):
+    kind, number = value
+    return f'mach {mach(number * 5)}' if kind == 'mach' else f'ias {number} kt'     # 002: units of 0.005 Mach
+
+
+def profile_change(value):
+    kind, number = value
+    return f'time interval {number * 15} minutes' if kind == 'time' else f'waypoints {number}'
+
+
+# An event contract's elements in 002's order and units (02, L7). Each is called what the event is called, but for the level range.
+CHANGES = {
+    'lateral-deviation': lambda value: f'{WORDS["event-type"][0]} {tenths(value)} nm',
+    'vertical-rate': lambda value: f'{WORDS["event-type"][1]} {times_ten(value)} ft/min',
+    'level-range': lambda value: f'level range, ceiling {times_ten(value["ceiling"])} ft, floor {times_ten(value["floor"])} ft',
+    'waypoint-change': lambda value: WORDS['event-type'][3],
+    'air-speed': lambda value: f'{WORDS["event-type"][4]}, {air_speed_change(value)}',
+    'ground-speed': lambda value: f'{WORDS["event-type"][5]} {value} kt',
+    'heading': lambda value: f'{WORDS["event-type"][6]} {tenths(value)} degrees',
+    'extended-profile': lambda value: f'{WORDS["event-type"][7]}, {profile_change(value)}',
+    'merit-change': lambda value: WORDS['event-type'][8],
+    'track': lambda value: f'{WORDS["event-type"][9]} {tenths(value)} degrees',
+    'level': lambda value: f'{WORDS["event-type"][10]} {times_ten(value)} ft',
+}
+
+
+def event_contract(value):
+    yield WORDS['request-type'][CONTRACTS['event']]
+    yield from (told(value[name]) for name, told in CHANGES.items() if name in value)
 
 
 def told(kind, value):
@@ -199,7 +227,9 @@ def told(kind, value):
         return negative(value)
     if kind == 'noncompliance':
         return noncompliance(value)
-    if kind in ('demand-contract', 'event-contract', 'periodic-contract'):
+    if kind == 'event-contract':
+        return event_contract(value)
+    if kind in ('demand-contract', 'periodic-contract'):
         return contract(kind.split('-')[0], value)
     return [{
         'cancel-emergency': lambda: 'cancel emergency',

@@ -24,6 +24,24 @@ WRITTEN = {
     'ground 5840': 'ground: modify emergency contract every 5 minutes',
     'ground 3000': 'ground: demand contract',
     'ground 4080': 'ground: event contract, waypoint change',
+    # each element of an event contract, and all of them: packed by hand from 002
+    'ground 44000320': 'ground: event contract, lateral deviation change 2.5 nm',
+    'ground 42005a00': 'ground: event contract, vertical rate change -1200 ft/min',
+    'ground 410034bcb9f0': 'ground: event contract, level range, ceiling 33000 ft, floor 29000 ft',
+    'ground 40400180': 'ground: event contract, air speed change, mach 0.02',
+    'ground 40407f00': 'ground: event contract, air speed change, mach 1.275',
+    'ground 40408260': 'ground: event contract, air speed change, ias 20 kt',
+    'ground 40201900': 'ground: event contract, ground speed change 50 kt',
+    'ground 40100630': 'ground: event contract, heading change 10.0 degrees',
+    'ground 400803': 'ground: event contract, extended projected profile change, time interval 60 minutes',
+    'ground 400882': 'ground: event contract, extended projected profile change, waypoints 3',
+    'ground 4004': 'ground: event contract, figure of merit change',
+    'ground 40020310': 'ground: event contract, track angle change 5.0 degrees',
+    'ground 40010e80': 'ground: event contract, level change 300 ft',
+    'ground 47ff032b4034bcb9f018c818c0c0c43a':
+        'ground: event contract, lateral deviation change 2.5 nm, vertical rate change -1200 ft/min, level range, ceiling 33000 ft, floor 29000 ft, '
+        'waypoint change, air speed change, mach 0.02, ground speed change 50 kt, heading change 10.0 degrees, '
+        'extended projected profile change, time interval 60 minutes, figure of merit change, track angle change 5.0 degrees, level change 300 ft',
     'ground 640400': 'ground: periodic contract every 1 minute',
     'ground 640420': 'ground: periodic contract every 5 minutes',
     'ground 6000': 'ground: periodic contract every 5 minutes',
@@ -154,12 +172,44 @@ INTERVALS = [('seconds', number) for number in (1, 2, 5, 59)] + [('minutes', num
 MODULI = (1, 2, 3, 4, 10, 11, 12, 13, 14, 20, 21, 22, 23, 24, 100, 101, 102, 103, 110, 111, 112, 113, 121, 211, 212, 213, 221, 255)
 
 
+LEVELS = (-75, -74, -1, 0, 1, 3300, 9999, 10000)
+# What an event contract may ask for, at the ends and where it is easily shown wrong.
+CHANGES = {
+    'lateral-deviation': (0, 1, 9, 10, 25, 99, 100, 1999, 2000),
+    'vertical-rate': RATES,
+    'level-range': [{'ceiling': ceiling, 'floor': floor} for ceiling in LEVELS for floor in (-75, -1, 0, 2900, 10000)],
+    'waypoint-change': (None,),
+    'air-speed': [('mach', number) for number in (1, 2, 3, 4, 19, 20, 21, 199, 200, 201, 220, 254, 255)] + [
+        ('ias', number) for number in (1, 2, 20, 255, 699, 700)],
+    'ground-speed': (0, 1, 50, 299, 300),
+    'heading': TRACKS,
+    'extended-profile': [('time', number) for number in (1, 2, 4, 79, 80)] + [('points', number) for number in (1, 2, 80, 81, 127, 128)],
+    'merit-change': (None,),
+    'track': TRACKS,
+    'level': (1, 2, 30, 499, 500),
+}
+
+
+def changes():
+    """Each element with each of its values; each two; all but one; all, with the shortest and the longest text."""
+    middle = {name: values[len(values) // 2] for name, values in CHANGES.items()}
+    yield from ({name: value} for name, values in CHANGES.items() for value in values)
+    yield from ({name: middle[name] for name in names} for names in itertools.combinations(middle, 2))
+    yield from ({name: middle[name] for name in middle if name != other} for other in middle)
+    yield {**middle, 'vertical-rate': -3000, 'level-range': {'ceiling': 10000, 'floor': 10000}, 'lateral-deviation': 2000, 'heading': 3600, 'track': 3600,
+           'extended-profile': ('time', 80), 'ground-speed': 300, 'level': 500, 'air-speed': ('ias', 700)}
+    for pick, place in ((min, 0), (max, -1)):
+        ends = {name: values[place] for name, values in CHANGES.items()}
+        for speed, profile in itertools.product(('mach', 'ias'), ('time', 'points')):
+            yield {**ends, 'air-speed': pick(value for value in CHANGES['air-speed'] if value[0] == speed),
+                   'extended-profile': pick(value for value in CHANGES['extended-profile'] if value[0] == profile)}
+
+
 def grounds():
     yield from (('cancel-all', None), ('cancel-contract', 0), ('cancel-contract', 1), ('cancel-emergency-ack', None))
     elements = plaintext.ELEMENTS
     yield from (('demand-contract', dict.fromkeys(some)) for some in ([], elements, elements[1::2], *([name] for name in elements)))
-    yield from (('event-contract', dict.fromkeys(some)) for some in
-                (['waypoint-change'], ['merit-change'], ['waypoint-change', 'merit-change']))
+    yield from (('event-contract', value) for value in changes())
     yield from (('modify-emergency', interval) for interval in INTERVALS)
     yield from (('periodic-contract', {'interval': interval}) for interval in INTERVALS)
     yield from (('periodic-contract', {'interval': ('minutes', 5), 'air-vector': number}) for number in MODULI)

@@ -87,8 +87,55 @@ for kind, mach, ias, number in ((0, 499, 0, 5), (0, 500, 9999, 6), (0, 4001, 0, 
 for parts, element, over in ((25, 16, 8), (29, 8, 8), (35, 4, 16)):
     check(f'number {parts}: bits that do not fit', report(1, element, [over if place == parts else 1 for place in range(25, 40)]), '5 999  ' + 'a5' * 31)
 
+# Event contracts, numbers 9 to 20: all eleven elements at the lowest, between and at the highest, each alone, each end and one step beyond it. The octets are
+# packed by hand from 002.
+LEAVING = [25, -120, 3300, 2900, 0, 4, 50, 100, 0, 4, 50, 30]
+LOWEST, HIGHEST = [0, -3000, -75, -75, 0, 1, 0, 1, 0, 1, 1, 1], [2000, 3000, 10000, 10000, 1, 700, 300, 3600, 1, 128, 3600, 500]
+LEAVING_SENT, HIGHEST_SENT = '47ff032b4034bcb9f018c818c0c0c43a', '47fffa17709d6e75bd772ce0fffe0ff980'
+
+
+def event(elements, numbers, room=18):
+    n = [number % 2 ** 32 for number in numbers]
+    return f'write_ground   {"a5" * room} 4 {elements}' + ' 7' * 7 + ''.join(f' {number}' for number in n)
+
+
+check('all eleven', event(2047, LEAVING), wrote(LEAVING_SENT, 18))
+check('all eleven, lowest', event(2047, LOWEST), wrote('47ff' + '00' * 14, 18))
+check('all eleven, highest', event(2047, HIGHEST), wrote(HIGHEST_SENT, 18))
+check('all eleven, just room', event(2047, HIGHEST, 17), wrote(HIGHEST_SENT, 17))
+check('all eleven, no room', event(2047, HIGHEST, 16), '6 999  ' + 'a5' * 16)
+for element, octets in ((1024, '44000320'), (512, '42005a00'), (256, '410034bcb9f0'), (128, '4080'), (64, '40400180'), (32, '40201900'), (16, '40100630'),
+                        (8, '400803'), (4, '4004'), (2, '40020310'), (1, '40010e80')):
+    check(f'element {element} alone', event(element, LEAVING), wrote(octets, 18))
+    announced = {1024: [9], 512: [10], 256: [11, 12], 64: [13, 14], 32: [15], 16: [16], 8: [17, 18], 2: [19], 1: [20]}.get(element, [])
+    others = [number if place in announced else 99999 for place, number in enumerate(LEAVING, 9)]
+    check(f'element {element}: the others are not looked at', event(element, others), wrote(octets, 18))
+check('IAS', event(64, [0, 0, 0, 0, 1, 20]), wrote('40408260', 18))
+check('way points', event(8, [0] * 8 + [1, 3]), wrote('400882', 18))
+check('a ceiling below its floor', event(256, [0, 0, -75, 10000]), wrote('4100000275b0', 18))
+check('9 numbers, the others count as 0', event(1024, []), wrote('44000000', 18))
+for element, place, low, high in ((1024, 9, 0, 2000), (512, 10, -3000, 3000), (256, 11, -75, 10000), (256, 12, -75, 10000), (32, 15, 0, 300),
+                                  (16, 16, 1, 3600), (2, 19, 1, 3600), (1, 20, 1, 500)):
+    for number in (low - 1, low, high, high + 1):
+        numbers = [0] * 12
+        numbers[place - 9] = number
+        check(f'number {place}: {number}', event(element, numbers, 1), ('6' if low <= number <= high else '5') + ' 999  a5')
+for element, place, kinds in ((64, 13, ((0, 1, 255), (1, 1, 700))), (8, 17, ((0, 1, 80), (1, 1, 128)))):
+    for kind, low, high in kinds:
+        for number in (low - 1, low, high, high + 1):
+            numbers = [0] * 12
+            numbers[place - 9:place - 7] = kind, number
+            check(f'number {place + 1}, kind {kind}: {number}', event(element, numbers, 1), ('6' if low <= number <= high else '5') + ' 999  a5')
+    for kind in (2, 2 ** 31, 2 ** 32 - 1):
+        numbers = [0] * 12
+        numbers[place - 9:place - 7] = kind, 1
+        check(f'number {place}: {kind} names nothing', event(element, numbers, 1), '5 999  a5')
+        check(f'number {place}: {kind} is not looked at', event(128, numbers), wrote('4080', 18))
+check('twelve bits', event(2048, LEAVING), '5 999  ' + 'a5' * 18)
+check('no element, whatever the numbers', event(0, [99999] * 12), '15 999  ' + 'a5' * 18)
+
 # Records: nine settings of 60, the seconds left, the states of DC, EC, PC, EM and LI, the interval asked for and the one in force.
-NONE, OUT = [0] * 9, 'a5' * 22
+NONE, OUT = [0] * 9, 'a5' * 31
 
 
 def record(left, states, settings=(60,) * 9, intervals=(0, 0)):
@@ -106,9 +153,11 @@ check('open: eight settings', f'open {FRESH}   ' + ' '.join(['60'] * 8), f'3 999
 for size in (0, 77, 84, 86):
     octets = 'a5' * size
     check(f'open: {size} octets', f'open {octets}   ' + ' '.join(['60'] * 9), f'6 999 {octets} ')
-check('a demand contract', f'request {FRESH}  {OUT} 3', f'0 999 {PENDING} ' + '00000000 02 0120000000000000 02 3000000000000000'.replace(' ', ''))
-check('59 seconds', f'elapse {PENDING}  {OUT} 59', '0 999 ' + record(left(0, 1), (1, 0, 0, 0, 1)) + ' ' + '00' * 22)
-check('60 seconds', f'elapse {PENDING}  {OUT}ff 60', f'0 999 {FRESH} ' + '00000004 03 1004060000000000 01 7400000000000000 ff'.replace(' ', ''))
+check('a demand contract', f'request {FRESH}  {OUT} 3', f'0 999 {PENDING} ' + '00000000 02 0120000000000000 02 3000'.replace(' ', '') + '00' * 15)
+check('59 seconds', f'elapse {PENDING}  {OUT} 59', '0 999 ' + record(left(0, 1), (1, 0, 0, 0, 1)) + ' ' + '00' * 31)
+check('60 seconds', f'elapse {PENDING}  {OUT}ff 60', f'0 999 {FRESH} ' + '00000004 03 1004060000000000 01 74'.replace(' ', '') + '00' * 16 + 'ff')
+check('all eleven asked for', f'request {FRESH}  {OUT}ff 4 2047' + ' 0' * 7 + ''.join(f' {number}' for number in HIGHEST),
+      '0 999 ' + record(left(2, 60), (0, 1, 0, 0, 1)) + ' ' + '00000000 02 0122000000000000 11 '.replace(' ', '') + HIGHEST_SENT + 'ff')
 for what, bad in {
         'DC1 does not run': record(NONE, (1, 0, 0, 0, 1)), 'DC2 runs too': record([60, 1] + [0] * 7, (1, 0, 0, 0, 1)),
         '61 left': record(left(0, 61), (1, 0, 0, 0, 1)), 'a setting of 0': record(NONE, (0, 0, 0, 0, 0), (60,) * 8 + (0,)),
@@ -119,7 +168,7 @@ for what, bad in {
     for call in ('elapse {}  {} 86401', 'user_abort {}  {}', 'end_confirm {}  {}', 'data {} 00 {}', 'request {}  {} 3 130'):
         for out in (OUT, ''):
             check(f'29: {what}', call.format(bad, out), f'29 999 {bad} {out}')
-check('START with all IDLE is good', 'elapse ' + record(NONE, (0, 0, 0, 0, 1)) + f'  {OUT} 1', '0 999 ' + record(NONE, (0, 0, 0, 0, 1)) + ' ' + '00' * 22)
+check('START with all IDLE is good', 'elapse ' + record(NONE, (0, 0, 0, 0, 1)) + f'  {OUT} 1', '0 999 ' + record(NONE, (0, 0, 0, 0, 1)) + ' ' + '00' * 31)
 check('4 before 6', f'elapse {FRESH}   86401', f'4 999 {FRESH} ')
 check('1 before a field', f'request {PENDING}  {OUT} 3 130', f'1 999 {PENDING} {OUT}')
 check('a field before 6', f'request {FRESH}   3 130', f'5 999 {FRESH} ')
@@ -136,7 +185,7 @@ def periodic(state, seconds=0, asked=0, force=0, li=2):
 
 
 def answered(actions, sent='', reason=0):
-    return f'{reason:08x}{len(actions):02x}{bytes(actions).hex():0<16}{len(sent) // 2:02x}{sent:0<16}'
+    return f'{reason:08x}{len(actions):02x}{bytes(actions).hex():0<16}{len(sent) // 2:02x}{sent:0<34}'
 
 
 def becomes(what, call, before, after, *said):

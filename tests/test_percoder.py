@@ -1,4 +1,4 @@
-"""Checks of percoder.py against page 01, the vectors and weather of 002 and L5 of 02: examples, encodings worked out by hand, refusals."""
+"""Checks of percoder.py against page 01, the vectors, weather and event contracts of 002 and L5 of 02: examples, encodings worked out by hand, refusals."""
 
 import random
 import sys
@@ -119,6 +119,41 @@ VECTORS = [
     ({'air-vector': {}, 'weather': {}}, '0001100', '000 0000'),
 ]
 
+# Elements of an event contract (002): eleven presence bits, then what is there. Numbers go less their lowest: 25 as 25; -120 as 2880; levels plus 75, 3300 as
+# 3375; Mach 4 as 3; IAS 20 as 19; 50 as 50; 100 as 99; 4 quarters of an hour as 3; 3 points as 2; 50 as 49; 30 as 29.
+LEAVING = {'lateral-deviation': 25, 'vertical-rate': -120, 'level-range': {'ceiling': 3300, 'floor': 2900}, 'waypoint-change': None,
+           'air-speed': ('mach', 4), 'ground-speed': 50, 'heading': 100, 'extended-profile': ('time', 4), 'merit-change': None, 'track': 50, 'level': 30}
+LEAVING_BITS = '00000011001 0101101000000 00110100101111 00101110011111 0 00000011 000110010 000001100011 0 0000011 000000110001 000011101'
+LOWEST = {'lateral-deviation': 0, 'vertical-rate': -3000, 'level-range': {'ceiling': -75, 'floor': -75}, 'waypoint-change': None,
+          'air-speed': ('mach', 1), 'ground-speed': 0, 'heading': 1, 'extended-profile': ('time', 1), 'merit-change': None, 'track': 1, 'level': 1}
+HIGHEST = {'lateral-deviation': 2000, 'vertical-rate': 3000, 'level-range': {'ceiling': 10000, 'floor': 10000}, 'waypoint-change': None,
+           'air-speed': ('ias', 700), 'ground-speed': 300, 'heading': 3600, 'extended-profile': ('points', 128), 'merit-change': None, 'track': 3600, 'level': 500}
+HIGHEST_BITS = '11111010000 1011101110000 10011101011011 10011101011011 1 1010111011 100101100 111000001111 1 1111111 111000001111 111110011'
+EVENTS = [
+    (LEAVING, '11111111111', LEAVING_BITS),
+    (LOWEST, '11111111111', '0' * (11 + 13 + 28 + 9 + 9 + 12 + 8 + 12 + 9)),
+    (HIGHEST, '11111111111', HIGHEST_BITS),
+    ({'lateral-deviation': 25}, '10000000000', '00000011001'),
+    ({'vertical-rate': -1}, '01000000000', '0101110110111'),
+    ({'vertical-rate': 0}, '01000000000', '0101110111000'),
+    ({'vertical-rate': 1}, '01000000000', '0101110111001'),
+    ({'level-range': {'ceiling': 10000, 'floor': -75}}, '00100000000', '10011101011011 00000000000000'),
+    ({'level-range': {'ceiling': -75, 'floor': 10000}}, '00100000000', '00000000000000 10011101011011'),   # below its floor, and good
+    ({'level-range': {'ceiling': -1, 'floor': 0}}, '00100000000', '00000001001010 00000001001011'),
+    ({'air-speed': ('mach', 255)}, '00001000000', '0 11111110'),
+    ({'air-speed': ('ias', 1)}, '00001000000', '1 0000000000'),
+    ({'air-speed': ('ias', 255)}, '00001000000', '1 0011111110'),
+    ({'ground-speed': 300}, '00000100000', '100101100'),
+    ({'heading': 3600}, '00000010000', '111000001111'),
+    ({'extended-profile': ('time', 80)}, '00000001000', '0 1001111'),
+    ({'extended-profile': ('points', 1)}, '00000001000', '1 0000000'),
+    ({'extended-profile': ('points', 81)}, '00000001000', '1 1010000'),
+    ({'track': 1}, '00000000010', '000000000000'),
+    ({'level': 500}, '00000000001', '111110011'),
+    ({'heading': 2, 'track': 3}, '00000010010', '000000000001 000000000010'),
+    ({'lateral-deviation': 2000, 'waypoint-change': None, 'level': 1}, '10010000001', '11111010000 000000000'),
+]
+
 HAND = [
     # air: extension bit, 4 bits of index
     ('air', ('cancel-emergency', None), '0 0000'),
@@ -171,6 +206,9 @@ for elements, presence, text in VECTORS:
         same(f'emergency {elements}', 'air', ('emergency', {'report': report(-75, **elements)}), bits('0 0010  0 0  01' + LOW_BITS + text))
         same(f'emergency, address {elements}', 'air', ('emergency', addressed), bits('0 0010  0 1  11' + FULL_BITS + text))
 check('octets of all three', len(write('air', ('demand-report', {'report': report(**ALL)}))), 30)
+for elements, presence, text in EVENTS:
+    same(f'event contract {elements}', 'ground', ('event-contract', elements), bits('0 100  0' + presence + text))
+check('octets of all eleven', [len(write('ground', ('event-contract', elements))) for elements in (LEAVING, HIGHEST)], [16, 17])
 check('kinds by hand', len({(family, value[0]) for family, value, _ in HAND}), 9 + 8)
 
 # An interval of 5 minutes is never sent, absent or named.
@@ -246,8 +284,8 @@ for what, family, value, wanted in [
         ('presence before a vector', 'air', plain(report(**{'ground-vector': {'track': 0}, 'short-term-intent': None})), 10),
         ('demand element', 'ground', ('demand-contract', {'short-term-intent': None}), 10),
         ('periodic element', 'ground', ('periodic-contract', {'extended-profile': 1}), 10),
-        ('event element', 'ground', ('event-contract', {'waypoint-change': None, 'element-11': None}), 10),
-        ('event element alone', 'ground', ('event-contract', {'element-1': None}), 10),
+        ('no such change of air speed', 'ground', ('event-contract', {'air-speed': ('both', 4)}), 5),
+        ('no such profile', 'ground', ('event-contract', {'extended-profile': ('distance', 4)}), 5),
         ('17 names', 'air', names(17), 12),
         ('17 types', 'air', ('noncompliance', ('demand', [0] * 17)), 12),
         ('no element', 'ground', ('event-contract', {}), 15),
@@ -288,10 +326,37 @@ for what, presence, text, wanted in [
     check(f'read {what}', refusal(read, 'air', bits('0 0001  0 0  0' + presence + LOW_BITS + text)), wanted)
 for presence, wanted in (('0100000', 10), ('0000010', 10), ('0000001', 10), ('0111111', 10), ('0010010', 10)):
     check(f'presence {presence}', refusal(read, 'air', bits('0 0001  0 0  0' + presence + LOW_BITS)), wanted)
-# An input that ends anywhere in the three elements.
-whole = write('air', ('demand-report', {'report': report(**ALL)}))
-for size in range(len(whole)):
-    check(f'{size} octets of {len(whole)}', refusal(read, 'air', whole[:size]), 7)
+# An input that ends anywhere in the three elements, or in the eleven of an event contract.
+for family, value in (('air', ('demand-report', {'report': report(**ALL)})), ('ground', ('event-contract', LEAVING)), ('ground', ('event-contract', HIGHEST))):
+    whole = write(family, value)
+    for size in range(len(whole)):
+        check(f'{size} octets of {len(whole)}', refusal(read, family, whole[:size]), 7)
+
+# One step beyond each end of each number of an event contract: to write, alone and with the other ten (5); where its bits hold it, to read (8).
+STEPS = [('lateral-deviation', lambda number: number, 0, 2000), ('vertical-rate', lambda number: number, -3000, 3000),
+         ('level-range', lambda number: {'ceiling': number, 'floor': 0}, -75, 10000),
+         ('level-range', lambda number: {'ceiling': 0, 'floor': number}, -75, 10000),
+         ('air-speed', lambda number: ('mach', number), 1, 255), ('air-speed', lambda number: ('ias', number), 1, 700),
+         ('ground-speed', lambda number: number, 0, 300), ('heading', lambda number: number, 1, 3600),
+         ('extended-profile', lambda number: ('time', number), 1, 80), ('extended-profile', lambda number: ('points', number), 1, 128),
+         ('track', lambda number: number, 1, 3600), ('level', lambda number: number, 1, 500)]
+for name, element, low, high in STEPS:
+    for number in (low - 1, high + 1):
+        for others in ({}, LEAVING):
+            check(f'event {name} {number}', refusal(write, 'ground', ('event-contract', {**others, name: element(number)})), 5)
+    for number in (low, high):
+        value = ('event-contract', {name: element(number)})
+        check(f'event {name} {number}', refusal(read, 'ground', write('ground', value)), value)
+for what, presence, text, wanted in [
+        ('lateral deviation 2001', '10000000000', '11111010001', 8), ('vertical rate 3001', '01000000000', '1011101110001', 8),
+        ('ceiling 10001', '00100000000', '10011101011100 00000000000000', 8), ('floor 10001', '00100000000', '00000000000000 10011101011100', 8),
+        ('mach 256', '00001000000', '0 11111111', 8), ('ias 701', '00001000000', '1 1010111100', 8), ('ground speed 301', '00000100000', '100101101', 8),
+        ('heading 3601', '00000010000', '111000010000', 8), ('time 81', '00000001000', '0 1010000', 8), ('time 128', '00000001000', '0 1111111', 8),
+        ('track 3601', '00000000010', '111000010000', 8), ('level change 501', '00000000001', '111110100', 8),
+        ('a ceiling before the floor is there', '00100000000', '10011101011100', 8), ('no element', '00000000000', '', 15),
+        ('no element, and more', '00000000000', '1', 15)]:
+    check(f'read {what}', refusal(read, 'ground', bits('0 100  0' + presence + text)), wanted)
+check('extension bit of an event contract', refusal(read, 'ground', bits('0 100  1 00000000000')), 9)
 
 # Presence bits as one number, as a host gives them: judged whole at their place, and what they do not announce is no part of the value.
 WITH_BITS = {PRESENCE: 64, **FULL, 'weather': {PRESENCE: 15, 'turbulence': 16}}

@@ -21,7 +21,11 @@ use Rattle.pdu_parts.specs.declared.report.EmergencyReport.{EmergencyReport}
 use Rattle.pdu_parts.specs.declared.acked.EventReport.{EventReport}
 use Rattle.pdu_parts.specs.declared.lists.Listed.{Listed}
 use Rattle.pdu.specs.declared.uplink.Ground.{Ground}
-use Rattle.pdu.specs.UplinkTable.{groundC}
+use Rattle.pdu_events.specs.declared.changes.Changes.{Changes}
+use Rattle.pdu_events.specs.Changes.{changesC}
+use Rattle.pdu_events.proofs.ChangeNorms.{ChangesSmall, changes-small}
+use Rattle.pdu.specs.declared.uplink.Ground.the-variants as ground
+use Rattle.pdu.specs.UplinkTable.{groundChanges, groundAlt, groundC}
 use Rattle.pdu.specs.Default.{writtenBack}
 use Rattle.pdu.specs.declared.downlink.Air.{Air}
 use Rattle.pdu.specs.declared.downlink.Air.the-variants as air
@@ -32,7 +36,7 @@ use Rattle.pdu.proofs.DownlinkNorms.{air-norm}
 use Rattle.pdu.proofs.Promises.{air-read, ground-read}
 use Rattle.host_numbers.specs.UplinkNumbers.{flatGround, groundAt}
 use Rattle.host_numbers.specs.DownlinkNumbers.{flatAir, airAt}
-use Rattle.host_numbers.specs.laws.UplinkBack.{ground-back}
+use Rattle.host_numbers.specs.laws.UplinkBack.{ChangesHold, GroundHolds, ground-back}
 use Rattle.host_numbers.specs.laws.ReportBack.{ReportHolds}
 use Rattle.host_numbers.specs.laws.DownlinkBack.{EmergencyHolds, AirHolds, listFor, pdu-back}
 use Rattle.adschost.specs.Flatness.{AirShown, ShowsAir, GroundShown, ShowsGround, WritesFlat}
@@ -119,6 +123,24 @@ air-round s a f e =
     let long : length (a .list .items) ≡ 128 = sym (ap (λ (x : AirPdu). length (x .list .items)) (k .1)) ∙ read-full (a .kind) (a .list) (k .0) in
     ap (encode airC) (pdu-back a (holds-own (a .kind) (a .list) (k .0) (k .1)) long (list-own (a .kind) (a .list) (k .1))) ∙ k .2
 
+changes-hold : (a : Changes) → changesC .chk a ≡ 0 → changesC .norm a ≡ a → ChangesHold a
+changes-hold a h e =
+    let s : ChangesSmall a = rw e at (changes-small a h) in
+    record { rate = omega (arith, s .rate); ceiling = omega (arith, s .range .0); floor = omega (arith, s .range .1) }
+
+holds-ground : (g : Ground) → groundC .chk g ≡ 0 → groundC .norm g ≡ g → GroundHolds g
+unfolding groundC groundAlt choice altCodec via dep field
+holds-ground ground.CancelAll h e = tt
+holds-ground (ground.CancelContract n) h e = tt
+holds-ground ground.CancelEmergencyAck h e = tt
+holds-ground (ground.DemandContract v) h e = tt
+holds-ground (ground.EventContract a) h e = changes-hold a h (ap groundChanges e)
+holds-ground (ground.ModifyEmergency i) h e = tt
+holds-ground (ground.PeriodicContract a) h e = tt
+holds-ground (ground.Abort n) h e = tt
+
 -- or, where the default was sent, to the form without it
 pub ground-round : (s : List ℕ) (g : Ground) → ((i : ℕ) → getD s i 0 < 256) → readPdu groundC s ≡ got g → encode groundC (groundAt (flatGround g)) ≡ writtenBack s g
-ground-round s g f e = ap (encode groundC) (ground-back g) ∙ ground-read s g f e .2
+ground-round s g f e =
+    let k = ground-read s g f e in
+    ap (encode groundC) (ground-back g (holds-ground g (k .0) (k .1))) ∙ k .2

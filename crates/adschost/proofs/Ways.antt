@@ -15,6 +15,7 @@ use Rattle.pdu.specs.declared.AirReading.{AirReading}
 use Rattle.pdu.specs.declared.AirAnswer.the-variants as air
 use Rattle.pdu.specs.declared.GroundAnswer.{GroundAnswer}
 use Rattle.pdu.specs.declared.GroundAnswer.the-variants as ground
+use Rattle.host_numbers.specs.Places.{G-NUMBERS}
 use Rattle.host_numbers.specs.UplinkNumbers.{flatGround}
 use Rattle.host_numbers.specs.DownlinkNumbers.{flatAir}
 use Rattle.adschost.specs.Flatness.{airShown, ShowsAir, groundShown, ShowsGround, numberOf, lengthOf, WritesFlat}
@@ -41,13 +42,13 @@ module _ (r x : AirReading) (e : r ≡ x) (f l : List ℕ) where
 
 module _ (r x : GroundAnswer) (e : r ≡ x) (f : List ℕ) where
   module _ (k : Ground) (g : r ≡ ground.Good k) where
-    pub few-ground : length f < 9 → ShowsGround (groundShown x f) 6 f
+    pub few-ground : length f < G-NUMBERS → ShowsGround (groundShown x f) 6 f
     unfolding groundShown
-    few-ground h = rw (← e, g, lt-ltb (length f) 9 h) (record { number-is = refl; numbers-are = refl })
+    few-ground h = rw (← e, g, lt-ltb (length f) G-NUMBERS h) (record { number-is = refl; numbers-are = refl })
 
-    pub ground-there : 9 ≤ length f → (u : List ℕ) → u ≡ sets f 0 (flatGround k) → ShowsGround (groundShown x f) 0 u
+    pub ground-there : G-NUMBERS ≤ length f → (u : List ℕ) → u ≡ sets f 0 (flatGround k) → ShowsGround (groundShown x f) 0 u
     unfolding groundShown
-    ground-there h u p = rw (← e, g, le-ltb (length f) 9 h) (record { number-is = refl; numbers-are = p })
+    ground-there h u p = rw (← e, g, le-ltb (length f) G-NUMBERS h) (record { number-is = refl; numbers-are = p })
 
   pub ground-refused : (n : ℕ) → r ≡ ground.Refused n → ShowsGround (groundShown x f) n f
   unfolding groundShown

@@ -15,7 +15,7 @@ use Rattle.pdu.specs.declared.AirAnswer.the-variants as air
 use Rattle.pdu.specs.declared.AirReading.{AirReading}
 use Rattle.pdu.specs.declared.GroundAnswer.{GroundAnswer}
 use Rattle.pdu.specs.declared.GroundAnswer.the-variants as ground
-use Rattle.host_numbers.specs.Places.{A-NUMBERS}
+use Rattle.host_numbers.specs.Places.{A-NUMBERS, G-NUMBERS}
 use Rattle.host_numbers.specs.UplinkNumbers.{flatGround}
 use Rattle.host_numbers.specs.DownlinkNumbers.{flatAir}
 use Rattle.refusals.specs.Refusals.{NO-ROOM}
@@ -48,7 +48,7 @@ pub record GroundShown : Type 0 where
 unfoldable pub groundShown : GroundAnswer → List ℕ → GroundShown
 groundShown (ground.Refused n) f = record { number = n; numbers = f }
 groundShown (ground.Good g) f =
-    pick (ltb (length f) 9) (record { number = NO-ROOM; numbers = f }) (record { number = 0; numbers = sets f 0 (flatGround g) })
+    pick (ltb (length f) G-NUMBERS) (record { number = NO-ROOM; numbers = f }) (record { number = 0; numbers = sets f 0 (flatGround g) })
 
 pub record ShowsGround (d : GroundShown) (r : ℕ) (numbers : List ℕ) : Type 0 where
   pub number-is : r ≡ d .number

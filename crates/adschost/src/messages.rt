@@ -4,6 +4,7 @@ use host_numbers::copy::put_items;
 use host_numbers::downlink::air_at;
 use host_numbers::downlink::flat_air;
 use host_numbers::places::A_NUMBERS;
+use host_numbers::places::G_NUMBERS;
 use host_numbers::uplink::flat_ground;
 use host_numbers::uplink::ground_at;
 use pdu::AirAnswer;
@@ -50,7 +51,7 @@ pub extern "C" fn adsc_read_air(octets: &[u8], numbers: &mut [u32], list: &mut [
     }
 }
 
-// A ground PDU as nine numbers.
+// A ground PDU as numbers.
 #[no_mangle]
 pub extern "C" fn adsc_read_ground(octets: &[u8], numbers: &mut [u32]) -> u8
     ensures { λ r. ⌜ ShowsGround (groundShown (groundReading (readPdu groundC (now (octets .entry)))) (now (numbers .entry))) r (now (numbers .exit)) ⌝ }
@@ -58,7 +59,7 @@ pub extern "C" fn adsc_read_ground(octets: &[u8], numbers: &mut [u32]) -> u8
     let answer = decode_ground(octets);
     match answer {
         GroundAnswer::Good(g) => {
-            if numbers.len() < 9 {
+            if numbers.len() < G_NUMBERS {
                 return NO_ROOM;
             }
             let flat = flat_ground(g);

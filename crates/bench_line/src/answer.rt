@@ -1,5 +1,6 @@
 // An answer as text, in the words of the ground.
 use ground_answer::answer::Said;
+use ground_answer::sent::SENT_MOST;
 use script::answer::Brief;
 use script::answer::put_brief;
 use text::least;
@@ -13,7 +14,7 @@ pub fn put_answer(out: &mut [u8], at: usize, said: Said, came: &[u8]) -> usize
     let acts = said.acts;
     let sent = said.sent;
     let octets = sent.octets;
-    let m = least(sent.n, 8);
+    let m = least(sent.n, SENT_MOST);
     put_brief(
         out,
         at,

@@ -8,9 +8,13 @@ use Rattle.pdu.specs.UplinkTable.{groundC}
 use Rattle.ground_answer.specs.declared.sent.Sent.{Sent}
 use Rattle.ground_answer.specs.declared.sent.Outgoing.{Outgoing}
 
+-- no ground PDU is longer: an event contract with every element has 129 bits
+abbrev pub SENT-MOST : ℕ
+SENT-MOST = 17
+
 -- the octets, and zeros
 unfoldable pub sent : List ℕ → Sent
-sent s = record { n = length s; octets = s ++ replicate (8 - length s) 0 }
+sent s = record { n = length s; octets = s ++ replicate (SENT-MOST - length s) 0 }
 
 -- the octets of a ground PDU, or the refusal of its fields and none
 unfoldable pub letterOf : ℕ → List ℕ → Outgoing

@@ -6,10 +6,13 @@ ghost use mathlib.Core.Path.{_≡_};
 ghost use mathlib.Core.List.{[]};
 ghost use Rattle.ground_answer.specs.Sent.{sent, outgoing};
 
-// The first n octets; the others are 0. No ground PDU is longer than eight.
+// No ground PDU is longer: an event contract with every element has 129 bits.
+pub const SENT_MOST: usize = 17;
+
+// The first n octets; the others are 0.
 pub struct Sent {
     pub n: usize,
-    pub octets: [u8; 8],
+    pub octets: [u8; SENT_MOST],
 }
 
 // What writing a PDU gave: the refusal's number, or 0 and the octets.
@@ -23,14 +26,14 @@ pub fn nothing() -> Sent
 {
     Sent {
         n: 0,
-        octets: [0; 8],
+        octets: [0; SENT_MOST],
     }
 }
 
 pub fn write(g: Ground) -> Outgoing
     ensures { λ r. ⌜ r ≡ outgoing g ⌝ }
 {
-    let mut octets = [0u8; 8];
+    let mut octets = [0u8; SENT_MOST];
     let w = encode_ground(g, &mut octets);
     match w {
         Written::Octets(n) => {

@@ -1,5 +1,6 @@
 pub mod Places
 pub mod Numbers
+pub mod ChangeNumbers
 pub mod UplinkNumbers
 pub mod laws
 pub mod VectorNumbers

@@ -151,3 +151,43 @@ G-AIR-VECTOR = 7
 
 abbrev pub G-WEATHER : ℕ
 G-WEATHER = 8
+
+abbrev pub G-LATERAL : ℕ
+G-LATERAL = 9
+
+abbrev pub G-RATE : ℕ
+G-RATE = 10
+
+abbrev pub G-CEILING : ℕ
+G-CEILING = 11
+
+abbrev pub G-FLOOR : ℕ
+G-FLOOR = 12
+
+abbrev pub G-AIR-SPEED : ℕ
+G-AIR-SPEED = 13
+
+abbrev pub G-AIR-SPEED-CHANGE : ℕ
+G-AIR-SPEED-CHANGE = 14
+
+abbrev pub G-GROUND-SPEED : ℕ
+G-GROUND-SPEED = 15
+
+abbrev pub G-HEADING : ℕ
+G-HEADING = 16
+
+abbrev pub G-EXTENDED-PROFILE : ℕ
+G-EXTENDED-PROFILE = 17
+
+abbrev pub G-EXTENDED-PROFILE-COUNT : ℕ
+G-EXTENDED-PROFILE-COUNT = 18
+
+abbrev pub G-TRACK : ℕ
+G-TRACK = 19
+
+abbrev pub G-LEVEL : ℕ
+G-LEVEL = 20
+
+-- how many numbers a ground PDU has
+abbrev pub G-NUMBERS : ℕ
+G-NUMBERS = 21

@@ -1,3 +1,3 @@
-pub mod UplinkBack
 pub mod ReportBack
+pub mod UplinkBack
 pub mod DownlinkBack

@@ -99,3 +99,30 @@ pub const G_GROUND_VECTOR: usize = 6;
 pub const G_AIR_VECTOR: usize = 7;
 
 pub const G_WEATHER: usize = 8;
+
+pub const G_LATERAL: usize = 9;
+
+pub const G_RATE: usize = 10;
+
+pub const G_CEILING: usize = 11;
+
+pub const G_FLOOR: usize = 12;
+
+pub const G_AIR_SPEED: usize = 13;
+
+pub const G_AIR_SPEED_CHANGE: usize = 14;
+
+pub const G_GROUND_SPEED: usize = 15;
+
+pub const G_HEADING: usize = 16;
+
+pub const G_EXTENDED_PROFILE: usize = 17;
+
+pub const G_EXTENDED_PROFILE_COUNT: usize = 18;
+
+pub const G_TRACK: usize = 19;
+
+pub const G_LEVEL: usize = 20;
+
+// How many numbers a ground PDU has.
+pub const G_NUMBERS: usize = 21;

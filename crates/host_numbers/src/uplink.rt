@@ -1,4 +1,6 @@
-// Ground PDUs as nine numbers. Missing numbers count as 0; numbers that name nothing make a value that no writer takes.
+// Ground PDUs as numbers. Missing numbers count as 0; numbers that name nothing make a value that no writer takes.
+use crate::changes::changes_at;
+use crate::changes::flat_changes;
 use crate::numbers::number;
 use crate::places::*;
 use pdu::uplink::Ground;
@@ -26,19 +28,28 @@ fn times_of(i: Interval) -> u32
 }
 
 // A kind and the one number that goes with it.
-fn pair(kind: u32, n: u32) -> [u32; 9]
+fn pair(kind: u32, n: u32) -> [u32; G_NUMBERS]
     ensures { λ r. ⌜ r ≡ pairOf kind n ⌝ }
 {
-    [kind, n, 0, 0, 0, 0, 0, 0, 0]
+    let mut f = [0u32; G_NUMBERS];
+    f[G_KIND] = kind;
+    f[G_WHAT] = n;
+    f
 }
 
-fn flat_modify(i: Interval) -> [u32; 9]
+fn flat_modify(i: Interval) -> [u32; G_NUMBERS]
     ensures { λ r. ⌜ r ≡ flatModify i ⌝ }
 {
-    [5, 0, scale_of(i), times_of(i), 0, 0, 0, 0, 0]
+    let scale = scale_of(i);
+    let times = times_of(i);
+    let mut f = [0u32; G_NUMBERS];
+    f[G_KIND] = 5;
+    f[G_SCALE] = scale;
+    f[G_INTERVAL] = times;
+    f
 }
 
-fn flat_periodic(a: Periodic) -> [u32; 9]
+fn flat_periodic(a: Periodic) -> [u32; G_NUMBERS]
     ensures { λ r. ⌜ r ≡ flatPeriodic a ⌝ }
 {
     let interval = a.interval;
@@ -54,10 +65,22 @@ fn flat_periodic(a: Periodic) -> [u32; 9]
         a.ground,
         a.air,
         a.weather,
+        0,
+        0,
+        0,
+        0,
+        0,
+        0,
+        0,
+        0,
+        0,
+        0,
+        0,
+        0,
     ]
 }
 
-pub fn flat_ground(g: Ground) -> [u32; 9]
+pub fn flat_ground(g: Ground) -> [u32; G_NUMBERS]
     ensures { λ r. ⌜ r ≡ flatGround g ⌝ }
 {
     match g {
@@ -65,7 +88,7 @@ pub fn flat_ground(g: Ground) -> [u32; 9]
         Ground::CancelContract(n) => pair(1, n),
         Ground::CancelEmergencyAck => pair(2, 0),
         Ground::DemandContract(v) => pair(3, v),
-        Ground::EventContract(v) => pair(4, v),
+        Ground::EventContract(a) => flat_changes(a),
         Ground::ModifyEmergency(i) => flat_modify(i),
         Ground::PeriodicContract(a) => flat_periodic(a),
         Ground::Abort(n) => pair(7, n),
@@ -115,7 +138,7 @@ pub fn ground_at(f: &[u32]) -> Ground
         1 => Ground::CancelContract(n),
         2 => Ground::CancelEmergencyAck,
         3 => Ground::DemandContract(n),
-        4 => Ground::EventContract(n),
+        4 => Ground::EventContract(changes_at(f)),
         5 => Ground::ModifyEmergency(interval_of(number(f, G_SCALE), number(f, G_INTERVAL))),
         6 => Ground::PeriodicContract(periodic_at(f)),
         7 => Ground::Abort(n),

@@ -18,7 +18,7 @@ use Rattle.ground.specs.Runs.{answered, Made, reply, ground}
 use Rattle.ground.proofs.Promises.{refused-still}
 use Rattle.ground.proofs.Demand3.{after-fine}
 use Rattle.host_record.specs.RecordLayout.{RECORD-OCTETS, linkOf, recordOctets}
-use Rattle.host_record.specs.AnswerLayout.{answerOctets}
+use Rattle.host_record.specs.AnswerLayout.{answerOctets, ANSWER-OCTETS}
 use Rattle.host_record.specs.laws.Back.{record-back}
 use Rattle.host_record.proofs.Puts.{length-record}
 use Rattle.host_record.specs.Hosting.{Done, left, told, hosted, kept, Hosts, Opening, Makes}
@@ -43,10 +43,10 @@ told-still s o a = go (eqb (a .said .refusal) 0) refl
     room false h = absurd (no-true h)
 
     go : (b : Bool) → eqb (a .said .refusal) 0 ≡ b
-        → eqb (pick b (pick (ltb (length o) 22) (left 6 s o) full) (left (a .said .refusal) s o) .number) 0 ≡ false
-        → pick b (pick (ltb (length o) 22) (left 6 s o) full) (left (a .said .refusal) s o)
-        ≡ left (pick b (pick (ltb (length o) 22) (left 6 s o) full) (left (a .said .refusal) s o) .number) s o
-    go true e h = room (ltb (length o) 22) h
+        → eqb (pick b (pick (ltb (length o) ANSWER-OCTETS) (left 6 s o) full) (left (a .said .refusal) s o) .number) 0 ≡ false
+        → pick b (pick (ltb (length o) ANSWER-OCTETS) (left 6 s o) full) (left (a .said .refusal) s o)
+        ≡ left (pick b (pick (ltb (length o) ANSWER-OCTETS) (left 6 s o) full) (left (a .said .refusal) s o) .number) s o
+    go true e h = room (ltb (length o) ANSWER-OCTETS) h
     go false e h = refl
 
 pub host-still : (call : Call) (octets s o : List ℕ) → eqb (hosted call octets s o .number) 0 ≡ false → hosted call octets s o ≡ left (hosted call octets s o .number) s o
@@ -64,7 +64,7 @@ host-still call octets s o = go (eqb (length s) RECORD-OCTETS)
 record-long : (l : Link) → Fine l → length (recordOctets l) ≡ RECORD-OCTETS
 record-long l s = length-record l (s .lefts) (s .settings)
 
-told-link : (l : Link) (c : Made) → told (recordOctets l) (replicate 22 0) (reply l c) .link ≡ recordOctets (reply l c .link)
+told-link : (l : Link) (c : Made) → told (recordOctets l) (replicate ANSWER-OCTETS 0) (reply l c) .link ≡ recordOctets (reply l c .link)
 unfolding told
 told-link l c = go (eqb (reply l c .said .refusal) 0) refl
   where
@@ -72,13 +72,13 @@ told-link l c = go (eqb (reply l c .said .refusal) 0) refl
     s = recordOctets l
 
     full : Done
-    full = record { number = 0; link = recordOctets (reply l c .link); answer = sets (replicate 22 0) 0 (answerOctets (reply l c .said)) }
+    full = record { number = 0; link = recordOctets (reply l c .link); answer = sets (replicate ANSWER-OCTETS 0) 0 (answerOctets (reply l c .said)) }
 
-    go : (b : Bool) → eqb (reply l c .said .refusal) 0 ≡ b → pick b full (left (reply l c .said .refusal) s (replicate 22 0)) .link ≡ recordOctets (reply l c .link)
+    go : (b : Bool) → eqb (reply l c .said .refusal) 0 ≡ b → pick b full (left (reply l c .said .refusal) s (replicate ANSWER-OCTETS 0)) .link ≡ recordOctets (reply l c .link)
     go true e = refl
     go false e = ap (λ (a : Answer). recordOctets (a .link)) (sym (refused-still l c e))
 
-host-step : (l : Link) (c : Made) → Fine l → hosted (c .call) (c .octets) (recordOctets l) (replicate 22 0) .link ≡ recordOctets (reply l c .link)
+host-step : (l : Link) (c : Made) → Fine l → hosted (c .call) (c .octets) (recordOctets l) (replicate ANSWER-OCTETS 0) .link ≡ recordOctets (reply l c .link)
 unfolding hosted
 host-step l c s = rw (eq-eqb (length (recordOctets l)) RECORD-OCTETS (record-long l s), record-back l (s .settings) (s .lefts) (s .states)) (told-link l c)
 

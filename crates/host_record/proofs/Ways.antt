@@ -14,7 +14,7 @@ use Rattle.ground.specs.Runs.{answered}
 use Rattle.ground.proofs.Promises.{settings-stay}
 use Rattle.octets.specs.Octets.{words}
 use Rattle.host_record.specs.RecordLayout.{RECORD-OCTETS, linkOf, recordOctets}
-use Rattle.host_record.specs.AnswerLayout.{answerOctets}
+use Rattle.host_record.specs.AnswerLayout.{answerOctets, ANSWER-OCTETS}
 use Rattle.link.specs.Names.{timers}
 use Rattle.host_record.specs.Hosting.{hosted, told, Hosts, settingsOf, made, opensInto, Makes}
 
@@ -34,13 +34,13 @@ module _ (call : Call) (octets s o : List ℕ) where
     refused-so n = rw (eq-eqb (length s) RECORD-OCTETS h, ← e, ne-eqb (a .said .refusal) 0 n) (record { number-is = refl; link-is = refl; answer-is = refl })
 
     module _ (n : a .said .refusal ≡ 0) where
-      pub no-room : length o < 22 → Hosts (hosted call octets s o) 6 s o
+      pub no-room : length o < ANSWER-OCTETS → Hosts (hosted call octets s o) 6 s o
       unfolding hosted told
-      no-room l = rw (eq-eqb (length s) RECORD-OCTETS h, ← e, eq-eqb (a .said .refusal) 0 n, lt-ltb (length o) 22 l) (record { number-is = refl; link-is = refl; answer-is = refl })
+      no-room l = rw (eq-eqb (length s) RECORD-OCTETS h, ← e, eq-eqb (a .said .refusal) 0 n, lt-ltb (length o) ANSWER-OCTETS l) (record { number-is = refl; link-is = refl; answer-is = refl })
 
-      pub accepted : 22 ≤ length o → (x y : List ℕ) → x ≡ recordOctets (a .link) → y ≡ sets o 0 (answerOctets (a .said)) → Hosts (hosted call octets s o) 0 x y
+      pub accepted : ANSWER-OCTETS ≤ length o → (x y : List ℕ) → x ≡ recordOctets (a .link) → y ≡ sets o 0 (answerOctets (a .said)) → Hosts (hosted call octets s o) 0 x y
       unfolding hosted told
-      accepted l x y p q = rw (eq-eqb (length s) RECORD-OCTETS h, ← e, eq-eqb (a .said .refusal) 0 n, le-ltb (length o) 22 l) (record { number-is = refl; link-is = p; answer-is = q })
+      accepted l x y p q = rw (eq-eqb (length s) RECORD-OCTETS h, ← e, eq-eqb (a .said .refusal) 0 n, le-ltb (length o) ANSWER-OCTETS l) (record { number-is = refl; link-is = p; answer-is = q })
 
 module _ (f s : List ℕ) where
   pub not-all : (length f ≡ timers → ⊥) → Makes (made f s) 3 s

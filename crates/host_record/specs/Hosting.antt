@@ -13,7 +13,7 @@ use Rattle.ground.specs.declared.call.Call.{Call}
 use Rattle.ground_answer.specs.Fresh.{opened}
 use Rattle.ground.specs.Runs.{answered, Made}
 use Rattle.host_record.specs.RecordLayout.{RECORD-OCTETS, linkOf, recordOctets}
-use Rattle.host_record.specs.AnswerLayout.{answerOctets}
+use Rattle.host_record.specs.AnswerLayout.{answerOctets, ANSWER-OCTETS}
 use Rattle.refusals.specs.Refusals.{BAD-RECORD, BAD-SETTING, NO-ROOM}
 
 -- the number that a call gives, and the two buffers after it
@@ -30,7 +30,7 @@ left n s o = record { number = n; link = s; answer = o }
 unfoldable pub told : List ℕ → List ℕ → Answer → Done
 told s o a =
     pick (eqb (a .said .refusal) 0)
-    (pick (ltb (length o) 22) (left NO-ROOM s o) (record { number = 0; link = recordOctets (a .link); answer = sets o 0 (answerOctets (a .said)) }))
+    (pick (ltb (length o) ANSWER-OCTETS) (left NO-ROOM s o) (record { number = 0; link = recordOctets (a .link); answer = sets o 0 (answerOctets (a .said)) }))
     (left (a .said .refusal) s o)
 
 -- the call by value on the record that the octets spell; other lengths are no record: 29
@@ -40,7 +40,7 @@ hosted call octets s o = pick (eqb (length s) RECORD-OCTETS) (told s o (answered
 -- the record after a sequence of calls, each with room for its answer
 unfoldable pub kept : List ℕ → List Made → List ℕ
 kept s [] = s
-kept s (c ∷ cs) = kept (hosted (c .call) (c .octets) s (replicate 22 0) .link) cs
+kept s (c ∷ cs) = kept (hosted (c .call) (c .octets) s (replicate ANSWER-OCTETS 0) .link) cs
 
 pub record Hosts (d : Done) (r : ℕ) (link answer : List ℕ) : Type 0 where
   pub number-is : r ≡ d .number

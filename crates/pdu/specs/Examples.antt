@@ -8,7 +8,10 @@ use Rattle.per.specs.Pdu.{Answer, got, refused, readPdu}
 use Rattle.per.specs.Writing.{Delivered, writePdu}
 use Rattle.per.specs.declared.pen.Written.{Written}
 use Rattle.per.specs.declared.pen.Written.the-variants.{Octets, Refused}
-use Rattle.pdu_parts.specs.Vectors.{noGroundVector, noAirVector, noWeather}
+use Rattle.pdu_events.specs.declared.changes.Changes.{Changes}
+use Rattle.pdu_events.specs.Changes.{noRange, noEither}
+use Rattle.pdu_events.specs.Elements.{WAYPOINT-CHANGE}
+use Rattle.pdu_parts.specs.Vectors.{none, noGroundVector, noAirVector, noWeather}
 use Rattle.pdu_parts.specs.declared.position.Angle.{Angle}
 use Rattle.pdu_parts.specs.declared.report.Report.{Report}
 use Rattle.pdu_parts.specs.declared.interval.Interval.the-variants.{Minutes}
@@ -50,6 +53,9 @@ plainReport = record {
 abbrev pub oneMinute : Periodic
 oneMinute = record { interval = Minutes 1; elements = 0; address = 0; profile = 0; ground = 0; air = 0; weather = 0 }
 
+abbrev pub waypoint : Changes
+waypoint = record { elements = WAYPOINT-CHANGE; lateral = 0; rate = none; range = noRange; air = noEither; ground = 0; heading = 0; profile = noEither; track = 0; level = 0 }
+
 -- P1 cancel-emergency; P2 ground abort 4; P3 air abort 4; P4 cancel-contract periodic; P5 positive ack periodic; P6 negative ack demand, reason 3;
 -- P7 modify to 5 minutes; P8 empty demand contract; P9 waypoint event contract; P10 periodic, 1 minute; P11 periodic, 5 minutes, written without them; P12 empty input: 7, in
 -- both families; P13 plain demand report
@@ -63,7 +69,7 @@ examples =
     ∷ down (33 ∷ 48 ∷ []) (got (bareAir (Negative (record { request = 2; reason = 3 }))))
     ∷ up (88 ∷ 64 ∷ []) (got (ModifyEmergency (Minutes 5)))
     ∷ up (48 ∷ 0 ∷ []) (got (DemandContract 0))
-    ∷ up (64 ∷ 128 ∷ []) (got (EventContract 128))
+    ∷ up (64 ∷ 128 ∷ []) (got (EventContract waypoint))
     ∷ up (100 ∷ 4 ∷ 0 ∷ []) (got (PeriodicContract oneMinute))
     ∷ upAs (100 ∷ 4 ∷ 32 ∷ []) (got (PeriodicContract noPeriod)) (96 ∷ 0 ∷ [])
     ∷ up [] (refused CUT-SHORT)

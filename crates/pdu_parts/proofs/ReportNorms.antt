@@ -21,7 +21,7 @@ use Rattle.pdu_parts.specs.Vectors.{none, groundVectorC, noGroundVector,
 use Rattle.pdu_parts.specs.Reports.{angleC, positionC, timeC, meritC, fixC, reportC, emergencyReportC}
 
 -- an optional number
-when-norm : (b : Bool) (lo hi n : ℕ) → when b 0 (num lo hi) .norm n ≡ cond b n 0
+pub when-norm : (b : Bool) (lo hi n : ℕ) → when b 0 (num lo hi) .norm n ≡ cond b n 0
 unfolding when absent field
 when-norm true lo hi n = refl
 when-norm false lo hi n = refl
@@ -58,7 +58,7 @@ unfolding fixC via dep
 fix-norm a = rw (position-norm (a .position), time-norm (a .time), merit-norm (a .merit))
 
 -- an optional number with a sign
-signed-norm : (b : Bool) (k hi : ℕ) (v : Signed) → when b none (signed k hi) .norm v ≡ cond b v none
+pub signed-norm : (b : Bool) (k hi : ℕ) (v : Signed) → when b none (signed k hi) .norm v ≡ cond b v none
 unfolding when absent field
 signed-norm true k hi v = refl
 signed-norm false k hi v = refl

@@ -26,12 +26,12 @@ use Rattle.pdu_parts.specs.Reports.{address, angleC, timeC, meritC, posi
 abbrev pub Small : Signed → Type 0
 Small v = mag (v .number) ≤ 10000
 
-raised-small : (k hi : ℕ) (z : ℤ) → k ≤ 10000 → hi ≤ 10000 → raisedChk k hi z ≡ 0 → mag z ≤ 10000
+pub raised-small : (k hi : ℕ) (z : ℤ) → k ≤ 10000 → hi ≤ 10000 → raisedChk k hi z ≡ 0 → mag z ≤ 10000
 raised-small k hi (pos n) a b h = let m = leb-true n hi (unless-true (leb n hi) 4 h) in omega (arith, m, b)
 raised-small k hi (negsuc n) a b h = let m = leb-true (suc n) k (unless-true (leb (suc n) k) 4 h) in omega (arith, m, a)
 
 -- a number that is absent reads as 0
-signed-small : (p : Bool) (k hi : ℕ) (v : Signed) → k ≤ 10000 → hi ≤ 10000 → when p none (signed k hi) .chk v ≡ 0 → Small (when p none (signed k hi) .norm v)
+pub signed-small : (p : Bool) (k hi : ℕ) (v : Signed) → k ≤ 10000 → hi ≤ 10000 → when p none (signed k hi) .chk v ≡ 0 → Small (when p none (signed k hi) .norm v)
 unfolding when absent field
 signed-small true k hi v a b h = raised-small k hi (v .number) a b h
 signed-small false k hi v a b h = lit≤ tt

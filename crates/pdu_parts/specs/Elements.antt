@@ -88,16 +88,3 @@ PERIODIC-BITS = 255
 
 abbrev pub PERIODIC-CARRIED : ℕ
 PERIODIC-CARRIED = INTERVAL + DEMAND-CARRIED
-
--- an event contract: "11 presence bits; only waypoint change (fourth) and merit change (ninth) are carried"
-abbrev pub WAYPOINT-CHANGE : ℕ
-WAYPOINT-CHANGE = 128
-
-abbrev pub MERIT-CHANGE : ℕ
-MERIT-CHANGE = 4
-
-abbrev pub EVENT-BITS : ℕ
-EVENT-BITS = 2047
-
-abbrev pub EVENT-CARRIED : ℕ
-EVENT-CARRIED = WAYPOINT-CHANGE + MERIT-CHANGE

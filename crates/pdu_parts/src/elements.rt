@@ -60,12 +60,3 @@ pub const INTERVAL: u32 = 128;
 pub const PERIODIC_BITS: u32 = 255;
 
 pub const PERIODIC_CARRIED: u32 = INTERVAL + DEMAND_CARRIED;
-
-// An event contract: "11 presence bits; only waypoint change (fourth) and merit change (ninth) are carried".
-pub const WAYPOINT_CHANGE: u32 = 128;
-
-pub const MERIT_CHANGE: u32 = 4;
-
-pub const EVENT_BITS: u32 = 2047;
-
-pub const EVENT_CARRIED: u32 = WAYPOINT_CHANGE + MERIT_CHANGE;

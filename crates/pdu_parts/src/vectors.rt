@@ -65,7 +65,7 @@ pub struct WeatherRead {
     pub next: Cursor,
 }
 
-fn read_signed_if(c: Cursor, s: &[u8], present: bool, below: u16, top: u16) -> SignedRead
+pub fn read_signed_if(c: Cursor, s: &[u8], present: bool, below: u16, top: u16) -> SignedRead
     ensures { λ r. ⌜ Reads (when present none (signed below top)) (now (s .entry)) c (r .value) (r .next) ⌝ }
 {
     if present {
@@ -77,7 +77,7 @@ fn read_signed_if(c: Cursor, s: &[u8], present: bool, below: u16, top: u16) -> S
     }
 }
 
-fn write_signed_if(
+pub fn write_signed_if(
     p: Pen,
     out: &mut [u8; 128],
     present: bool,

@@ -28,7 +28,7 @@ use Rattle.pdu.specs.declared.GroundAnswer as ground
 use Rattle.host_numbers.specs.DownlinkNumbers.{flatAir}
 use Rattle.host_numbers.specs.UplinkNumbers.{flatGround}
 use Rattle.pdu_words.specs.Names.{refusalWords}
-use Rattle.pdu_words.specs.Ways.{Way, nothing, number, two, three, seconds, tens, octets, nth, word, list, names, tenths, signed, thousandths, quarters, twoDigits, threeDigits, tenthText, secondsText, tenthsText, thousandthsText, signText, sizeOf, signedText, tensText, fractions, quartersText, octetsText, ending, nthText, plain, letter, mark, nameItem, entryItem, itemsText, wayText}
+use Rattle.pdu_words.specs.Ways.{Way, nothing, number, two, three, seconds, tens, octets, nth, word, list, names, tenths, signed, thousandths, quarters, machSteps, timeSteps, twoDigits, threeDigits, tenthText, secondsText, tenthsText, thousandthText, thousandthsText, machText, timeText, signText, sizeOf, signedText, tensText, fractions, quartersText, octetsText, ending, nthText, plain, letter, mark, nameItem, entryItem, itemsText, wayText}
 use Rattle.pdu_words.specs.Rows.{Row, chosen, rowText, rowsText}
 use Rattle.pdu_words.specs.AirRows.{airRows, airWords}
 use Rattle.pdu_words.specs.GroundRows.{groundRows, groundWords}
@@ -92,6 +92,8 @@ wayMost tenths = 22
 wayMost signed = 21
 wayMost thousandths = 24
 wayMost quarters = 29
+wayMost machSteps = 31
+wayMost timeSteps = 44
 
 list-length : (item : ℕ → ℕ → List ℕ) (m k : ℕ) (items : List ℕ) → ((i c : ℕ) → length (item i c) ≤ m) → length items ≤ 128
     → length (itemsText item 0 (take k items)) ≤ 128 * m
@@ -101,12 +103,25 @@ tenths-length : (n : ℕ) → length (tenthsText n) ≤ 22
 unfolding tenthsText tenthText
 tenths-length n = omega (arith, length-append (decimal (n / 10)) (tenthText n), decimal-length (n / 10))
 
+thousandth-length : (n : ℕ) → length (thousandthText n) ≤ 4
+unfolding thousandthText twoDigits
+thousandth-length n =
+    let t : length (pick (eqb (n % 10) 0) [] ((48 + n % 10) ∷ [])) ≤ 1 = of-two (eqb (n % 10) 0) 1 _ _ (lit≤ tt) (lit≤ tt) in
+    omega (arith, t)
+
 thousandths-length : (n : ℕ) → length (thousandthsText n) ≤ 24
-unfolding thousandthsText twoDigits
-thousandths-length n =
-    let third = pick (eqb (n % 10) 0) [] ((48 + n % 10) ∷ []) in
-    let t : length third ≤ 1 = of-two (eqb (n % 10) 0) 1 _ _ (lit≤ tt) (lit≤ tt) in
-    omega (arith, length-append (decimal (n / 1000)) (ascii "." ++ (twoDigits (n / 10) ++ third)), decimal-length (n / 1000), t)
+unfolding thousandthsText
+thousandths-length n = omega (arith, length-append (decimal (n / 1000)) (thousandthText n), decimal-length (n / 1000), thousandth-length n)
+
+mach-length : (n : ℕ) → length (machText n) ≤ 31
+unfolding machText
+mach-length n =
+    let m = n % 200 * 5 in
+    of-two (eqb n 0) 31 _ _ (lit≤ tt) (omega (arith, length-append (decimal (n / 200)) (thousandthText m), decimal-length (n / 200), thousandth-length m))
+
+time-length : (n : ℕ) → length (timeText n) ≤ 44
+unfolding timeText
+time-length n = of-two (eqb n 0) 44 _ _ (lit≤ tt) (omega (arith, length-append (decimal (n * 15)) (ascii " minutes"), decimal-length (n * 15)))
 
 -- a sign and a text of at most m letters
 sign-length : (n m : ℕ) (t : List ℕ) → length t ≤ m → length (signText n ++ t) ≤ 1 + m
@@ -156,6 +171,8 @@ way-length tenths n items h = tenths-length n
 way-length signed n items h = signed-length n
 way-length thousandths n items h = thousandths-length n
 way-length quarters n items h = quarters-length n
+way-length machSteps n items h = mach-length n
+way-length timeSteps n items h = time-length n
 
 -- and rows
 rowMost : Row → ℕ

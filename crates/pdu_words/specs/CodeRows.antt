@@ -6,7 +6,7 @@ use lib.Dec.{eqb}
 use Rattle.text.specs.Text.{pick}
 use Rattle.text.specs.Words.{wordAt}
 use Rattle.pdu_words.specs.Names.{listAt, vocabulary}
-use Rattle.pdu_words.specs.Ways.{Way, nothing, number, two, three, seconds, tens, octets, nth, word, list, names, tenths, signed, thousandths, quarters, nameItem, entryItem}
+use Rattle.pdu_words.specs.Ways.{Way, nothing, number, two, three, seconds, tens, octets, nth, word, list, names, tenths, signed, thousandths, quarters, machSteps, timeSteps, nameItem, entryItem}
 use Rattle.pdu_words.specs.Rows.{Test, any, bit, same, other, masked, Row}
 
 -- ways by their numbers, with a list of words by its number. Entries of list 0 are names
@@ -25,7 +25,7 @@ wayOf w l =
     (pick (eqb w 8) nth
     (pick (eqb w 9) (entriesOf l)
     (pick (eqb w 10) tenths
-    (pick (eqb w 11) signed (pick (eqb w 12) thousandths (pick (eqb w 13) quarters nothing))))))))))))
+    (pick (eqb w 11) signed (pick (eqb w 12) thousandths (pick (eqb w 13) quarters (pick (eqb w 14) machSteps (pick (eqb w 15) timeSteps nothing))))))))))))))
 
 -- of the octets of a list, by its number too: how one is shown, and how many `count` entries have
 unfoldable pub itemOf : ℕ → ℕ → ℕ → List ℕ

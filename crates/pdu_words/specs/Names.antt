@@ -70,6 +70,7 @@ labels =
     ∷ ascii ", positive ack" ∷ ascii ", level " ∷ ascii " ft" ∷ ascii ", accuracy " ∷ ascii ", multiple units " ∷ ascii ", acas " ∷ ascii ", aircraft "
     ∷ ascii ", track " ∷ ascii ", ground speed " ∷ ascii " kt" ∷ ascii ", vertical rate " ∷ ascii " ft/min" ∷ ascii ", heading " ∷ ascii ", mach " ∷ ascii ", ias "
     ∷ ascii ", wind " ∷ ascii " at " ∷ ascii ", wind speed " ∷ ascii ", temperature " ∷ ascii " C" ∷ ascii ", turbulence "
+    ∷ ascii " nm" ∷ ascii ", level range, ceiling " ∷ ascii ", floor " ∷ ascii " degrees" ∷ ascii ", waypoints "
     ∷ []
 
 -- the lists by their numbers in the code's rows: the first has one word, which is empty

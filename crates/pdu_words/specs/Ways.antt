@@ -36,6 +36,9 @@ pub data Way : Type 0 where
   thousandths : Way
   -- quarters with a sign, as in -56.5
   quarters : Way
+  -- steps of 0.005 Mach, as in ", mach 0.02", and of 15 minutes, as in ", time interval 60 minutes"; no steps are not shown
+  machSteps : Way
+  timeSteps : Way
 
 unfoldable pub twoDigits : ℕ → List ℕ
 twoDigits n = (48 + n / 10 % 10) ∷ (48 + n % 10) ∷ []
@@ -53,9 +56,19 @@ secondsText n = twoDigits (n / 10) ++ tenthText n
 unfoldable pub tenthsText : ℕ → List ℕ
 tenthsText n = decimal (n / 10) ++ tenthText n
 
--- two decimals, and a third that is not 0
+-- a point and the thousandths behind it: two decimals, and a third that is not 0
+unfoldable pub thousandthText : ℕ → List ℕ
+thousandthText n = ascii "." ++ (twoDigits (n / 10) ++ pick (eqb (n % 10) 0) [] ((48 + n % 10) ∷ []))
+
 unfoldable pub thousandthsText : ℕ → List ℕ
-thousandthsText n = decimal (n / 1000) ++ (ascii "." ++ (twoDigits (n / 10) ++ pick (eqb (n % 10) 0) [] ((48 + n % 10) ∷ [])))
+thousandthsText n = decimal (n / 1000) ++ thousandthText n
+
+-- 200 steps of 0.005 are 1
+unfoldable pub machText : ℕ → List ℕ
+machText n = pick (eqb n 0) [] (ascii ", mach " ++ (decimal (n / 200) ++ thousandthText (n % 200 * 5)))
+
+unfoldable pub timeText : ℕ → List ℕ
+timeText n = pick (eqb n 0) [] (ascii ", time interval " ++ (decimal (n * 15) ++ ascii " minutes"))
 
 -- a number with a sign stands in two's complement of 32 bits: what stands before it, and its size
 unfoldable pub signText : ℕ → List ℕ
@@ -128,3 +141,5 @@ wayText tenths n items = tenthsText n
 wayText signed n items = signedText n
 wayText thousandths n items = thousandthsText n
 wayText quarters n items = quartersText n
+wayText machSteps n items = machText n
+wayText timeSteps n items = timeText n

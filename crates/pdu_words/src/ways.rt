@@ -9,7 +9,7 @@ use text::put_text;
 use text::words::put_word;
 ghost use mathlib.Core.Path.{_≡_};
 ghost use Rattle.text.specs.Page.{page, Writes};
-ghost use Rattle.pdu_words.specs.Ways.{twoDigits, threeDigits, tenthText, secondsText, tenthsText, thousandthsText, signText, sizeOf, signedText, tensText, quartersText, octetsText, ending, nthText, wayText};
+ghost use Rattle.pdu_words.specs.Ways.{twoDigits, threeDigits, tenthText, secondsText, tenthsText, thousandthText, thousandthsText, machText, timeText, signText, sizeOf, signedText, tensText, quartersText, octetsText, ending, nthText, wayText};
 ghost use Rattle.pdu_words.specs.CodeRows.{wayOf};
 
 // Its last two digits.
@@ -52,17 +52,48 @@ fn put_tenths(out: &mut Page, at: usize, n: u32) -> usize
     put_tenth(out, a, n)
 }
 
-// Thousandths: two decimals, and a third that is not 0.
-fn put_thousandths(out: &mut Page, at: usize, n: u32) -> usize
-    ensures { λ r. ⌜ Writes (page (now (out .entry)) at) (thousandthsText n) (page (now (out .exit)) r) ⌝ }
+// A point and the thousandths behind it: two decimals, and a third that is not 0.
+fn put_thousandth(out: &mut Page, at: usize, n: u32) -> usize
+    ensures { λ r. ⌜ Writes (page (now (out .entry)) at) (thousandthText n) (page (now (out .exit)) r) ⌝ }
 {
-    let a = put_decimal(out, at, (n / 1000) as u64);
-    let a = put_byte(out, a, b'.');
+    let a = put_byte(out, at, b'.');
     let a = put_two(out, a, n / 10);
     if n % 10 == 0 {
         return a;
     }
     put_byte(out, a, 48 + (n % 10) as u8)
+}
+
+// Thousandths of a Mach number.
+fn put_thousandths(out: &mut Page, at: usize, n: u32) -> usize
+    ensures { λ r. ⌜ Writes (page (now (out .entry)) at) (thousandthsText n) (page (now (out .exit)) r) ⌝ }
+{
+    let a = put_decimal(out, at, (n / 1000) as u64);
+    put_thousandth(out, a, n)
+}
+
+// Steps of 0.005 Mach, in which 002 counts changes; none are not shown.
+fn put_mach(out: &mut Page, at: usize, n: u32) -> usize
+    ensures { λ r. ⌜ Writes (page (now (out .entry)) at) (machText n) (page (now (out .exit)) r) ⌝ }
+{
+    if n == 0 {
+        return at;
+    }
+    let a = put_text(out, at, b", mach ");
+    let a = put_decimal(out, a, (n / 200) as u64);
+    put_thousandth(out, a, n % 200 * 5)
+}
+
+// Steps of 15 minutes, in which 002 counts the time of an extended profile; none are not shown.
+fn put_time(out: &mut Page, at: usize, n: u32) -> usize
+    ensures { λ r. ⌜ Writes (page (now (out .entry)) at) (timeText n) (page (now (out .exit)) r) ⌝ }
+{
+    if n == 0 {
+        return at;
+    }
+    let a = put_text(out, at, b", time interval ");
+    let a = put_decimal(out, a, n as u64 * 15);
+    put_text(out, a, b" minutes")
 }
 
 // The sign of a number in two's complement.
@@ -170,6 +201,8 @@ pub(crate) fn put_way(out: &mut Page, at: usize, way: u64, list: u8, n: u32, ite
         11 => put_signed(out, at, n),
         12 => put_thousandths(out, at, n),
         13 => put_quarters(out, at, n),
+        14 => put_mach(out, at, n),
+        15 => put_time(out, at, n),
         _ => at,
     }
 }

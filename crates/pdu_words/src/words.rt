@@ -31,7 +31,8 @@ pub(crate) fn put_name(out: &mut Page, at: usize, n: usize) -> usize
         , used by noncompliance with  not metperiodic reportpositive ack to provider abort , positive ack, level  ft\
         , accuracy , multiple units , acas , aircraft \
         , track , ground speed  kt, vertical rate  ft/min, heading , mach , ias \
-        , wind  at , wind speed , temperature  C, turbulence ",
+        , wind  at , wind speed , temperature  C, turbulence  nm\
+        , level range, ceiling , floor  degrees, waypoints ",
         &[
             0,
             0,
@@ -135,6 +136,11 @@ pub(crate) fn put_name(out: &mut Page, at: usize, n: usize) -> usize
             1241,
             1243,
             1256,
+            1259,
+            1282,
+            1290,
+            1298,
+            1310,
         ],
         n,
     )

@@ -11,7 +11,8 @@ use Rattle.per.specs.Pdu.{encode, readPdu, got, refused}
 use Rattle.pdu_parts.specs.declared.interval.Interval.{Interval}
 use Rattle.pdu_parts.specs.declared.interval.Interval.the-variants.{Seconds, Minutes}
 use Rattle.pdu_parts.specs.declared.periodic.Periodic.{Periodic}
-use Rattle.pdu_parts.specs.Elements.{PERIODIC-BITS, PERIODIC-CARRIED, REPORT-BITS, DEMAND-CARRIED, EVENT-BITS, EVENT-CARRIED}
+use Rattle.pdu_parts.specs.Elements.{PERIODIC-BITS, PERIODIC-CARRIED, REPORT-BITS, DEMAND-CARRIED}
+use Rattle.pdu_events.specs.Changes.{levelRangeC, eitherC, changesC}
 use Rattle.pdu_parts.specs.Interval.{intervalC, intervalIf, isFive, sentBits, moduliC, partsC, toParts}
 use Rattle.pdu_parts.specs.Periodic.{periodicC}
 use Rattle.pdu.specs.declared.uplink.Ground.{Ground}
@@ -76,13 +77,28 @@ on-periodic a = go (leb (a .elements) 127)
         on-first (a-mask PERIODIC-BITS PERIODIC-CARRIED five ten .each v)
         (on-first (on-sent (has 128 v) (a .interval)) (moduli v .each (a .address, (a .profile, (a .ground, (a .air, a .weather))))))
 
+fifteen : On numbers 15
+fifteen = on tt
+
+on-range : Held numbers levelRangeC
+unfolding levelRangeC
+on-range = search (fields, five) depth 12
+
+on-either : (first second : ℕ) → Held numbers (eitherC first second)
+unfolding eitherC
+on-either first second = search (fields, five) depth 12
+
+on-changes : Held numbers changesC
+unfolding changesC
+on-changes = search (fields, five, ten, fifteen, on-range, on-either) depth 28
+
 on-ground : (g : Ground) → On numbers (groundC .chk g)
 unfolding groundC groundAlt choice altCodec via dep field absent
 on-ground CancelAll = on tt
 on-ground (CancelContract n) = a-number 0 1 five .each n
 on-ground CancelEmergencyAck = on tt
 on-ground (DemandContract v) = a-mask REPORT-BITS DEMAND-CARRIED five ten .each v
-on-ground (EventContract v) = a-full-mask EVENT-BITS EVENT-CARRIED five ten (on tt) .each v
+on-ground (EventContract a) = on-changes .each a
 on-ground (ModifyEmergency i) = on-interval i
 on-ground (PeriodicContract a) = on-periodic a
 on-ground (Abort n) = a-number 0 7 five .each n

@@ -12,11 +12,12 @@ use Rattle.per.specs.Bits.{numAt}
 use Rattle.per.specs.Codec.{Codec, Out, out, refuse, first}
 use Rattle.per.specs.Field.{Field, settle}
 use Rattle.per.specs.Shapes.{Other}
-use Rattle.per.specs.Formats.{field, dep, via, recast, only, absent, when, num, extension, mask, Alt, altCodec, neverCodec, choice}
+use Rattle.per.specs.Formats.{field, dep, via, recast, only, absent, when, num, signed, extension, mask, Alt, altCodec, neverCodec, choice}
 use Rattle.per.specs.Pdu.{fill, window, start, ending, finish, answer, readPdu, refused}
 use Rattle.per.proofs.Within.{_then_, all, each-arm}
 use Rattle.pdu_parts.specs.Interval.{intervalArms, intervalC, intervalIf, moduliC}
 use Rattle.pdu_parts.specs.Periodic.{periodicC}
+use Rattle.pdu_events.specs.Changes.{levelRangeC, eitherC, changesC}
 use Rattle.pdu.specs.UplinkTable.{groundArms, groundAlt, groundC}
 use Rattle.sides.specs.Tables.{member}
 use Rattle.promises.specs.Messages.{unread}
@@ -43,6 +44,9 @@ met-field {A} f q = record {
 
 met-num : (lo hi : ℕ) → Met (num lo hi)
 met-num lo hi = met-field _ (λ v. on-unless (leb (lo + v) hi) 8 (on tt))
+
+met-signed : (k hi : ℕ) → Met (signed k hi)
+met-signed k hi = met-field _ (λ v. on-unless (leb v (hi + k)) 8 (on tt))
 
 met-mark : Met extension
 met-mark = met-field _ (λ v. on-unless (eqb v 0) 9 (on tt))
@@ -101,7 +105,7 @@ met-choice : {E : Type 0} (top : ℕ) (tag : E → ℕ) (alts : (i : ℕ) → Al
 unfolding choice
 met-choice top tag alts x = met-via _ _ _ _ _ (met-dep _ _ (met-num 0 top) x)
 
-ruleset readings = (met-num, met-mark, met-absent, met-when, met-dep, met-via, met-mask, met-alternative, met-never, met-choice)
+ruleset readings = (met-num, met-signed, met-mark, met-absent, met-when, met-dep, met-via, met-mask, met-alternative, met-never, met-choice)
 
 met-interval : Met intervalC
 unfolding intervalC
@@ -111,6 +115,18 @@ met-periodic : Met periodicC
 unfolding periodicC intervalIf moduliC
 met-periodic = met-recast _ _ _ _ _ _ _ (search (readings, met-interval) depth 12)
 
+met-range : Met levelRangeC
+unfolding levelRangeC
+met-range = search readings depth 12
+
+met-either : (first second : ℕ) → Met (eitherC first second)
+unfolding eitherC
+met-either first second = search readings depth 12
+
+met-changes : Met changesC
+unfolding changesC
+met-changes = search (readings, met-range, met-either) depth 28
+
 met-ground : Met groundC
 unfolding groundC groundAlt
 met-ground =
@@ -119,7 +135,7 @@ met-ground =
     then search readings
     then search readings
     then search readings
-    then search readings
+    then search (readings, met-changes)
     then search (readings, met-interval)
     then search (readings, met-periodic)
     then search readings

@@ -31,7 +31,7 @@ level-back z f = ap (λ (y : ℤ). record { number = y }) (toZ-ofZ (record { sfi
 abbrev pub Holds : Signed → Type 0
 Holds v = mag (v .number) < 2 ^ 31
 
-signed-back : (v : Signed) → Holds v → signedOf (twos (v .number)) ≡ v
+pub signed-back : (v : Signed) → Holds v → signedOf (twos (v .number)) ≡ v
 signed-back v f = level-back (v .number) f
 
 bit-small : (b : Bool) → ltb (bitOf b) 2 ≡ true

@@ -6,13 +6,14 @@ use native.Mathlib.Nat.{min-le-right}
 use lib.ListN.{length, take, length-take}
 use lib.Seq.{length-take-le}
 use Rattle.text.proofs.Laws.{take-least}
+use Rattle.ground_answer.specs.Sent.{SENT-MOST}
 use Rattle.bench_line.specs.AnswerText.{answerText}
 use borrow.Author.Needs.{needs}
 use Rattle.bench_line.proofs.answer.put_answer.Statement.{statement}
 use Rattle.bench_line.proofs.answer.put_answer.Tie as tie
 
-eight : (c : tie.Start) → length (c .args .said .sent .octets) ≡ 8
-eight c = search needs
+whole : (c : tie.Start) → length (c .args .said .sent .octets) ≡ SENT-MOST
+whole c = search needs
 
 least-requires : tie.Need-least-requires
 least-requires c κs = search needs
@@ -30,10 +31,10 @@ slice-aggregate-put-brief-4 : tie.Need-slice-aggregate-put-brief-4
 slice-aggregate-put-brief-4 c = search needs
 
 array-share-prefix-octets : tie.Need-array-share-prefix-octets
-array-share-prefix-octets c = omega (arith, c .before .before .before .before .before .least .ensures .within, eight (c .before .before .before .before .before .before .before .before .before .before .before))
+array-share-prefix-octets c = omega (arith, c .before .before .before .before .before .least .ensures .within, whole (c .before .before .before .before .before .before .before .before .before .before .before))
 
 slice-aggregate-put-brief-5 : tie.Need-slice-aggregate-put-brief-5
-slice-aggregate-put-brief-5 c = sym (length-take-le _ _ (omega (arith, c .before .before .before .before .before .before .least .ensures .within, eight (c .before .before .before .before .before .before .before .before .before .before .before .before))))
+slice-aggregate-put-brief-5 c = sym (length-take-le _ _ (omega (arith, c .before .before .before .before .before .before .least .ensures .within, whole (c .before .before .before .before .before .before .before .before .before .before .before .before))))
 
 put-brief-requires : tie.Need-put-brief-requires
 put-brief-requires c κs = search needs
@@ -47,8 +48,8 @@ returns c = let start = c .before .before .before .before .before .before .befor
     let low = c .before .before .before .before .before .before .before .before .before .least in
     let octets = start .args .said .sent .octets in
     let b = c .before .before .put-brief .ensures in
-    let m : take (low .result) octets ≡ take (start .args .said .sent .n) octets = ap (λ (j : ℕ). take j octets) (low .ensures .is) ∙ take-least (start .args .said .sent .n) 8 octets (eight start) in
-    let few : length (take (start .args .said .sent .n) octets) ≤ 2048 = omega (arith, length-take (start .args .said .sent .n) octets, min-le-right (start .args .said .sent .n) (length octets), eight start) in
+    let m : take (low .result) octets ≡ take (start .args .said .sent .n) octets = ap (λ (j : ℕ). take j octets) (low .ensures .is) ∙ take-least (start .args .said .sent .n) SENT-MOST octets (whole start) in
+    let few : length (take (start .args .said .sent .n) octets) ≤ 2048 = omega (arith, length-take (start .args .said .sent .n) octets, min-le-right (start .args .said .sent .n) (length octets), whole start) in
     record { text-is = rw (← m) (b .text-is); short = rw (← m) (b .short (refl {a = true}) (rw m few)) }
 
 pub put-answer-spec : {M : Type 1} → statement M

@@ -30,8 +30,8 @@ pair-requires-4 c κs = search needs
 enum-known-g-3 : tie.Need-enum-known-g-3
 enum-known-g-3 c = search needs
 
-pair-requires-5 : tie.Need-pair-requires-5
-pair-requires-5 c κs = search needs
+flat-changes-requires : tie.Need-flat-changes-requires
+flat-changes-requires c κs = search needs
 
 enum-known-g-4 : tie.Need-enum-known-g-4
 enum-known-g-4 c = search needs
@@ -48,8 +48,8 @@ flat-periodic-requires c κs = search needs
 enum-known-g-6 : tie.Need-enum-known-g-6
 enum-known-g-6 c = search needs
 
-pair-requires-6 : tie.Need-pair-requires-6
-pair-requires-6 c κs = search needs
+pair-requires-5 : tie.Need-pair-requires-5
+pair-requires-5 c κs = search needs
 
 returns : tie.Need-returns
 unfolding flatGround
@@ -69,7 +69,7 @@ returns-4 c = rw (c .before .before .g2 .given .1) (c .pair4 .ensures)
 
 returns-5 : tie.Need-returns-5
 unfolding flatGround
-returns-5 c = rw (c .before .before .g3 .given .1) (c .pair5 .ensures)
+returns-5 c = rw (c .before .before .g3 .given .1) (c .flat-changes .ensures)
 
 returns-6 : tie.Need-returns-6
 unfolding flatGround
@@ -81,7 +81,7 @@ returns-7 c = rw (c .before .before .g5 .given .1) (c .flat-periodic .ensures)
 
 returns-8 : tie.Need-returns-8
 unfolding flatGround
-returns-8 c = rw (c .before .before .g6 .given .1) (c .pair6 .ensures)
+returns-8 c = rw (c .before .before .g6 .given .1) (c .pair5 .ensures)
 
 pub flat-ground-spec : {M : Type 1} → statement M
 flat-ground-spec =
@@ -96,13 +96,13 @@ flat-ground-spec =
     enum-known-g-2
     pair-requires-4
     enum-known-g-3
-    pair-requires-5
+    flat-changes-requires
     enum-known-g-4
     flat-modify-requires
     enum-known-g-5
     flat-periodic-requires
     enum-known-g-6
-    pair-requires-6
+    pair-requires-5
     returns
     returns-2
     returns-3

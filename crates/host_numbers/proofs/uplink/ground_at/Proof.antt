@@ -13,6 +13,9 @@ number-requires c κs = search needs
 number-requires-2 : tie.Need-number-requires-2
 number-requires-2 c κs = search needs
 
+changes-at-requires : tie.Need-changes-at-requires
+changes-at-requires c κs = search needs
+
 number-requires-3 : tie.Need-number-requires-3
 number-requires-3 c κs = search needs
 
@@ -43,7 +46,7 @@ returns-4 c = rw (sym (c .before .before .number .ensures) ∙ c .match .keys4, 
 
 returns-5 : tie.Need-returns-5
 unfolding groundAt
-returns-5 c = rw (sym (c .before .before .number .ensures) ∙ c .match .keys5, c .before .number2 .ensures)
+returns-5 c = rw (sym (c .before .before .before .number .ensures) ∙ c .before .match .keys5, c .changes-at .ensures)
 
 returns-6 : tie.Need-returns-6
 unfolding groundAt
@@ -70,6 +73,7 @@ ground-at-spec =
     (tie.spec
     number-requires
     number-requires-2
+    changes-at-requires
     number-requires-3
     number-requires-4
     interval-of-requires

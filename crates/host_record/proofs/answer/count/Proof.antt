@@ -1,5 +1,5 @@
 use borrow.Author.Tests.{lt-ltb, le-ltb}
-use Rattle.host_record.specs.AnswerLayout.{most8}
+use Rattle.host_record.specs.AnswerLayout.{atMost}
 use borrow.Author.Needs.{needs}
 use Rattle.host_record.proofs.answer.count.Statement.{statement}
 use Rattle.host_record.proofs.answer.count.Tie as tie
@@ -8,12 +8,12 @@ cast-result : tie.Need-cast-result
 cast-result c = search needs
 
 returns : tie.Need-returns
-unfolding most8
-returns c = rw (lt-ltb _ 8 (c .if1 .taken))
+unfolding atMost
+returns c = rw (lt-ltb _ _ (c .if1 .taken))
 
 returns-2 : tie.Need-returns-2
-unfolding most8
-returns-2 c = rw (le-ltb _ 8 (c .if1 .left))
+unfolding atMost
+returns-2 c = rw (le-ltb _ _ (c .if1 .left))
 
 pub count-spec : {M : Type 1} → statement M
 count-spec = tie.close (tie.spec cast-result returns returns-2)

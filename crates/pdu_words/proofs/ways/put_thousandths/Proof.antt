@@ -1,5 +1,3 @@
-use mathlib.Core.Path.{refl}
-use borrow.Author.Tests.{eq-eqb, ne-eqb}
 use Rattle.text.proofs.Pages.{after}
 use Rattle.pdu_words.specs.Ways.{thousandthsText}
 use borrow.Author.Needs.{needs}
@@ -12,39 +10,12 @@ cast-put-decimal c = search needs
 put-decimal-requires : tie.Need-put-decimal-requires
 put-decimal-requires c κs = search needs
 
-put-byte-requires : tie.Need-put-byte-requires
-put-byte-requires c κs = search needs
-
-put-two-requires : tie.Need-put-two-requires
-put-two-requires c κs = search needs
+put-thousandth-requires : tie.Need-put-thousandth-requires
+put-thousandth-requires c κs = search needs
 
 returns : tie.Need-returns
 unfolding thousandthsText
-returns c = rw (eq-eqb _ 0 (c .if1 .taken)) (after (c .before .before .before .before .before .put-decimal .ensures) (after (c .before .before .before .put-byte .ensures) (after (c .before .put-two .ensures) (record { is = refl }))))
-
-cast-put-byte : tie.Need-cast-put-byte
-cast-put-byte c = search needs
-
-add-put-byte : tie.Need-add-put-byte
-add-put-byte c = search needs
-
-put-byte-requires-2 : tie.Need-put-byte-requires-2
-put-byte-requires-2 c κs = search needs
-
-returns-2 : tie.Need-returns-2
-unfolding thousandthsText
-returns-2 c = rw (ne-eqb _ 0 (c .before .before .if1 .left)) (after (c .before .before .before .before .before .before .before .put-decimal .ensures) (after (c .before .before .before .before .before .put-byte .ensures) (after (c .before .before .before .put-two .ensures) (c .put-byte2 .ensures))))
+returns c = after (c .before .before .put-decimal .ensures) (c .put-thousandth .ensures)
 
 pub put-thousandths-spec : {M : Type 1} → statement M
-put-thousandths-spec =
-    tie.close
-    (tie.spec
-    cast-put-decimal
-    put-decimal-requires
-    put-byte-requires
-    put-two-requires
-    returns
-    cast-put-byte
-    add-put-byte
-    put-byte-requires-2
-    returns-2)
+put-thousandths-spec = tie.close (tie.spec cast-put-decimal put-decimal-requires put-thousandth-requires returns)

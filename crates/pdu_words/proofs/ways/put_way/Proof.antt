@@ -45,6 +45,12 @@ put-thousandths-requires c κs = search needs
 put-quarters-requires : tie.Need-put-quarters-requires
 put-quarters-requires c κs = search needs
 
+put-mach-requires : tie.Need-put-mach-requires
+put-mach-requires c κs = search needs
+
+put-time-requires : tie.Need-put-time-requires
+put-time-requires c κs = search needs
+
 returns : tie.Need-returns
 unfolding wayText wayOf
 returns c = rw (c .before .before .match .keys1) (c .put-decimal .ensures)
@@ -99,7 +105,15 @@ returns-13 c = rw (c .before .before .match .keys13) (c .put-quarters .ensures)
 
 returns-14 : tie.Need-returns-14
 unfolding wayText wayOf
-returns-14 c = rw (ne-eqb _ 1 (c .match .rest .0 .0 .0 .0 .0 .0 .0 .0 .0 .0 .0 .0 .1), ne-eqb _ 2 (c .match .rest .0 .0 .0 .0 .0 .0 .0 .0 .0 .0 .0 .1), ne-eqb _ 3 (c .match .rest .0 .0 .0 .0 .0 .0 .0 .0 .0 .0 .1), ne-eqb _ 4 (c .match .rest .0 .0 .0 .0 .0 .0 .0 .0 .0 .1), ne-eqb _ 5 (c .match .rest .0 .0 .0 .0 .0 .0 .0 .0 .1), ne-eqb _ 6 (c .match .rest .0 .0 .0 .0 .0 .0 .0 .1), ne-eqb _ 7 (c .match .rest .0 .0 .0 .0 .0 .0 .1), ne-eqb _ 8 (c .match .rest .0 .0 .0 .0 .0 .1), ne-eqb _ 9 (c .match .rest .0 .0 .0 .0 .1), ne-eqb _ 10 (c .match .rest .0 .0 .0 .1), ne-eqb _ 11 (c .match .rest .0 .0 .1), ne-eqb _ 12 (c .match .rest .0 .1), ne-eqb _ 13 (c .match .rest .1)) (record { is = refl })
+returns-14 c = rw (c .before .before .match .keys14) (c .put-mach .ensures)
+
+returns-15 : tie.Need-returns-15
+unfolding wayText wayOf
+returns-15 c = rw (c .before .before .match .keys15) (c .put-time .ensures)
+
+returns-16 : tie.Need-returns-16
+unfolding wayText wayOf
+returns-16 c = rw (ne-eqb _ 1 (c .match .rest .0 .0 .0 .0 .0 .0 .0 .0 .0 .0 .0 .0 .0 .0 .1), ne-eqb _ 2 (c .match .rest .0 .0 .0 .0 .0 .0 .0 .0 .0 .0 .0 .0 .0 .1), ne-eqb _ 3 (c .match .rest .0 .0 .0 .0 .0 .0 .0 .0 .0 .0 .0 .0 .1), ne-eqb _ 4 (c .match .rest .0 .0 .0 .0 .0 .0 .0 .0 .0 .0 .0 .1), ne-eqb _ 5 (c .match .rest .0 .0 .0 .0 .0 .0 .0 .0 .0 .0 .1), ne-eqb _ 6 (c .match .rest .0 .0 .0 .0 .0 .0 .0 .0 .0 .1), ne-eqb _ 7 (c .match .rest .0 .0 .0 .0 .0 .0 .0 .0 .1), ne-eqb _ 8 (c .match .rest .0 .0 .0 .0 .0 .0 .0 .1), ne-eqb _ 9 (c .match .rest .0 .0 .0 .0 .0 .0 .1), ne-eqb _ 10 (c .match .rest .0 .0 .0 .0 .0 .1), ne-eqb _ 11 (c .match .rest .0 .0 .0 .0 .1), ne-eqb _ 12 (c .match .rest .0 .0 .0 .1), ne-eqb _ 13 (c .match .rest .0 .0 .1), ne-eqb _ 14 (c .match .rest .0 .1), ne-eqb _ 15 (c .match .rest .1)) (record { is = refl })
 
 pub put-way-spec : {M : Type 1} → statement M
 put-way-spec =
@@ -118,6 +132,8 @@ put-way-spec =
     put-signed-requires
     put-thousandths-requires
     put-quarters-requires
+    put-mach-requires
+    put-time-requires
     returns
     returns-2
     returns-3
@@ -131,4 +147,6 @@ put-way-spec =
     returns-11
     returns-12
     returns-13
-    returns-14)
+    returns-14
+    returns-15
+    returns-16)
