@@ -1,0 +1,3 @@
+// What is under way comes to the other end, or is thrown away, and a line says what came of each.
+pub mod carry;
+pub mod hear;
