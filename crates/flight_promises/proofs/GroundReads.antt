@@ -17,8 +17,8 @@ use Rattle.pdu.specs.declared.uplink.Ground.the-variants.{CancelAll, CancelCont
 use Rattle.pdu.specs.UplinkTable.{groundAlt, groundC}
 use Rattle.pdu.proofs.Promises.{ground-written}
 use Rattle.pdu.proofs.UplinkBounds.{ground-most}
-use Rattle.pdu.proofs.UplinkNorms.{ground-norm, ground-periodic-norm}
-use Rattle.ground_answer.specs.Sent.{sent, letterOf, outgoing}
+use Rattle.pdu.proofs.UplinkNorms.{ground-norm, ground-periodic-norm, ground-event-norm}
+use Rattle.ground_answer.specs.Sent.{SENT-MOST, sent, letterOf, outgoing}
 use Rattle.air_answer.specs.Events.{uplinkEvent, reasonIn}
 use Rattle.sending.specs.Ways.{kindOf}
 use Rattle.flight_promises.specs.Fitting.{upReads, upFits}
@@ -26,14 +26,14 @@ use Rattle.flight_promises.specs.Fitting.{upReads, upFits}
 -- absent parts of a value matter to no test
 up-same : (kind : ℕ) (g : Ground) → upReads kind (got (groundC .norm g)) ≡ upReads kind (got g)
 unfolding upReads uplinkEvent reasonIn
-up-same kind CancelAll = ap (λ (x : Ground). upReads kind (got x)) (ground-norm CancelAll (λ e. absurd (omega (arith, e))))
-up-same kind (CancelContract n) = ap (λ (x : Ground). upReads kind (got x)) (ground-norm (CancelContract n) (λ e. absurd (omega (arith, e))))
-up-same kind CancelEmergencyAck = ap (λ (x : Ground). upReads kind (got x)) (ground-norm CancelEmergencyAck (λ e. absurd (omega (arith, e))))
-up-same kind (DemandContract v) = ap (λ (x : Ground). upReads kind (got x)) (ground-norm (DemandContract v) (λ e. absurd (omega (arith, e))))
-up-same kind (EventContract v) = ap (λ (x : Ground). upReads kind (got x)) (ground-norm (EventContract v) (λ e. absurd (omega (arith, e))))
-up-same kind (ModifyEmergency i) = ap (λ (x : Ground). upReads kind (got x)) (ground-norm (ModifyEmergency i) (λ e. absurd (omega (arith, e))))
+up-same kind CancelAll = ap (λ (x : Ground). upReads kind (got x)) (ground-norm CancelAll (λ e. absurd (omega (arith, e))) (λ e. absurd (omega (arith, e))))
+up-same kind (CancelContract n) = ap (λ (x : Ground). upReads kind (got x)) (ground-norm (CancelContract n) (λ e. absurd (omega (arith, e))) (λ e. absurd (omega (arith, e))))
+up-same kind CancelEmergencyAck = ap (λ (x : Ground). upReads kind (got x)) (ground-norm CancelEmergencyAck (λ e. absurd (omega (arith, e))) (λ e. absurd (omega (arith, e))))
+up-same kind (DemandContract v) = ap (λ (x : Ground). upReads kind (got x)) (ground-norm (DemandContract v) (λ e. absurd (omega (arith, e))) (λ e. absurd (omega (arith, e))))
+up-same kind (EventContract v) = ap (λ (x : Ground). upReads kind (got x)) (ground-event-norm v)
+up-same kind (ModifyEmergency i) = ap (λ (x : Ground). upReads kind (got x)) (ground-norm (ModifyEmergency i) (λ e. absurd (omega (arith, e))) (λ e. absurd (omega (arith, e))))
 up-same kind (PeriodicContract a) = ap (λ (x : Ground). upReads kind (got x)) (ground-periodic-norm a)
-up-same kind (Abort n) = ap (λ (x : Ground). upReads kind (got x)) (ground-norm (Abort n) (λ e. absurd (omega (arith, e))))
+up-same kind (Abort n) = ap (λ (x : Ground). upReads kind (got x)) (ground-norm (Abort n) (λ e. absurd (omega (arith, e))) (λ e. absurd (omega (arith, e))))
 
 pub up-reads : (kind : ℕ) (g : Ground) → groundC .chk g ≡ 0 → upReads kind (readPdu groundC (encode groundC g)) ≡ upReads kind (got g)
 up-reads kind g h = ap (upReads kind) (ground-written g h) ∙ up-same kind g
@@ -75,7 +75,7 @@ module _ (g : Ground) (h : groundC .chk g ≡ 0) where
 -- the octets of an answer
 pub sent-is : (s : List ℕ) → take (sent s .n) (sent s .octets) ≡ s
 unfolding sent
-sent-is s = take-append-seam s (replicate (8 - length s) 0)
+sent-is s = take-append-seam s (replicate (SENT-MOST - length s) 0)
 
 pub goes-out : (g : Ground) → groundC .chk g ≡ 0 → outgoing g .sent ≡ sent (encode groundC g)
 unfolding outgoing letterOf

@@ -52,7 +52,10 @@ pub fn turn_air(w: World, number: u64, call: Call, list: Listed, octets: &[u8]) 
     let a = answer(link, call, list, octets);
     let said = a.said;
     let before = w.held;
-    let now = Way { held: before, number };
+    let now = Way {
+        held: before,
+        number,
+    };
     let way = send_said(said, now);
     let held = way.held;
     if MOST < count(held) {

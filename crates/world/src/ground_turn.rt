@@ -44,7 +44,10 @@ pub fn turn_ground(w: World, call: Call, octets: &[u8]) -> GroundTurn
     let a = answer(link, call, octets);
     let said = a.said;
     let before = w.held;
-    let now = Way { held: before, number: w.last };
+    let now = Way {
+        held: before,
+        number: w.last,
+    };
     let way = send_said(said, now);
     let held = way.held;
     if MOST < count(held) {
