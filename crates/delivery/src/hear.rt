@@ -4,6 +4,7 @@ use channel::Letter;
 use channel::ROOM;
 use pdu_parts::lists::no_list;
 use refusals::SCRIPT_LINE;
+use sending::END;
 use text::least;
 use text::put_text;
 use world::air_turn::turn_air;
@@ -27,7 +28,7 @@ pub fn came_count(l: Letter) -> usize
     if l.up {
         return least(l.n, ROOM);
     }
-    if l.kind == 3 {
+    if l.kind == END {
         return 0;
     }
     least(l.n, ROOM)
