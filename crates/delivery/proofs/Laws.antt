@@ -2,8 +2,9 @@
 use mathlib.Core.Path.{_≡_, refl, sym, ap, _∙_}
 use mathlib.Core.Bool.{Bool, true, false}
 use mathlib.Core.List.{append-nil}
-use Prim.Native.Nat.{ℕ, suc, _+_, _-_, _≤_, _<_}
+use Prim.Native.Nat.{ℕ, suc, _+_, _-_, _*_, _≤_, _<_}
 use native.Mathlib.Omega.{arith}
+use lib.ListN.{length-append}
 use Rattle.text.specs.Letters.{ascii}
 use Rattle.text.specs.Text.{pick}
 use Rattle.text.specs.Page.{Page}
@@ -14,7 +15,7 @@ use Rattle.world.specs.World.{World, worldOf}
 use Rattle.world.specs.GroundTurns as toGround
 use Rattle.world.specs.AirTurns as toAir
 use Rattle.delivery.specs.Hearing.{came, Carried, Carries, cameTo, groundSaid, groundCarried, airSaid, airCarried, comes}
-use Rattle.delivery.specs.Deliveries.{carriedOne, carried, Flies}
+use Rattle.delivery.specs.Deliveries.{carriedOne, carried, LETTER-MOST, Flies}
 use Rattle.delivery.specs.declared.hear.Carried as code
 
 module _ (w : World) (l : Letter) where
@@ -44,21 +45,23 @@ module _ (w : World) (l : Letter) where
 
 module _ (hear : Bool) (number k i : ℕ) (w : World) where
   -- a letter, and those after it
-  pub carry-goes : {p m q : Page} {v : World} (r : code.Carried) → i < k → r .stays ≡ false → Carries (carriedOne hear number (i + 1) w) p r m
-      → Flies (carried hear (k - (i + 1)) number (i + 1) (worldOf (r .world))) m v q → Flies (carried hear (k - i) number i w) p v q
+  pub carry-goes : {p m q : Page} {v : World} (r : code.Carried) → i < k → r .stays ≡ false → Carries LETTER-MOST (carriedOne hear number (i + 1) w) p r m
+      → Flies ((k - (i + 1)) * LETTER-MOST) (carried hear (k - (i + 1)) number (i + 1) (worldOf (r .world))) m v q → Flies ((k - i) * LETTER-MOST) (carried hear (k - i) number i w) p v q
   carry-goes r h s c f =
       let e : k - i ≡ suc (k - (i + 1)) = omega arith in
       let z : carriedOne hear number (i + 1) w .stays ≡ false = sym (c .stays-is) ∙ s in
       let g = rw (c .world-is) at f in
-      rw (e, z) (record { world-is = g .world-is; text-is = after (c .text-is) (g .text-is) })
+      let one = carriedOne hear number (i + 1) w .text in
+      let more = carried hear (k - (i + 1)) number (i + 1) (carriedOne hear number (i + 1) w .world) .text in
+      rw (e, z) (record { world-is = g .world-is; text-is = after (c .text-is) (g .text-is); short = omega (arith, length-append one more, c .short, g .short) })
 
   -- a letter that stays is the last
-  pub carry-stays : {p q : Page} (r : code.Carried) → i < k → r .stays ≡ true → Carries (carriedOne hear number (i + 1) w) p r q
-      → Flies (carried hear (k - i) number i w) p (worldOf (r .world)) q
+  pub carry-stays : {p q : Page} (r : code.Carried) → i < k → r .stays ≡ true → Carries LETTER-MOST (carriedOne hear number (i + 1) w) p r q
+      → Flies ((k - i) * LETTER-MOST) (carried hear (k - i) number i w) p (worldOf (r .world)) q
   carry-stays r h s c =
       let e : k - i ≡ suc (k - (i + 1)) = omega arith in
       let z : carriedOne hear number (i + 1) w .stays ≡ true = sym (c .stays-is) ∙ s in
-      rw (e, z) (record { world-is = c .world-is; text-is = rw (append-nil (carriedOne hear number (i + 1) w .text)) (c .text-is) })
+      rw (e, z, append-nil (carriedOne hear number (i + 1) w .text)) (record { world-is = c .world-is; text-is = c .text-is; short = omega (arith, c .short) })
 
-  pub carry-ends : {p : Page} → k ≤ i → Flies (carried hear (k - i) number i w) p w p
-  carry-ends h = let e : k - i ≡ 0 = omega arith in rw e (record { world-is = refl; text-is = record { is = refl } })
+  pub carry-ends : {p : Page} → k ≤ i → Flies ((k - i) * LETTER-MOST) (carried hear (k - i) number i w) p w p
+  carry-ends h = let e : k - i ≡ 0 = omega arith in rw e (record { world-is = refl; text-is = record { is = refl }; short = omega arith })

@@ -3,8 +3,8 @@
 use mathlib.Core.Path.{_≡_}
 use mathlib.Core.Bool.{Bool}
 use mathlib.Core.List.{List, [], _∷_, _++_}
-use Prim.Native.Nat.{ℕ, zero, suc, _+_}
-use lib.ListN.{drop}
+use Prim.Native.Nat.{ℕ, zero, suc, _+_, _≤_}
+use lib.ListN.{length, drop}
 use Rattle.text.specs.Letters.{ascii}
 use Rattle.text.specs.Text.{pick, decimal}
 use Rattle.text.specs.Words.{wordAt}
@@ -50,7 +50,12 @@ carried hear (suc k) number i w =
     let c = carriedOne hear number (i + 1) w in
     onto (c .text) (pick (c .stays) (record { box = c .world; text = [] }) (carried hear k number (i + 1) (c .world)))
 
--- what the code gives: the world, and the text on the page
-pub record Flies (x : Reply World) (p : Page) (w : World) (q : Page) : Type 0 where
+-- the most that a line for a letter has
+abbrev pub LETTER-MOST : ℕ
+LETTER-MOST = 2500
+
+-- what the code gives: the world, and the text on the page, which has at most so many octets
+pub record Flies (most : ℕ) (x : Reply World) (p : Page) (w : World) (q : Page) : Type 0 where
   pub world-is : w ≡ x .box
   pub text-is : Writes p (x .text) q
+  pub short : length (x .text) ≤ most

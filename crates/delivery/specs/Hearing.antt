@@ -56,8 +56,18 @@ airCarried w l =
 unfoldable pub comes : Bool → World → Letter → Carried
 comes hear w l = pick hear (pick (l .up) (airCarried w l) (groundCarried w l)) (cameTo w (ascii "lost"))
 
--- what the code gives
-pub record Carries (x : Carried) (p : Page) (r : code.Carried) (q : Page) : Type 0 where
+-- the most that an end says of a letter: eight entries, each with the octets of a PDU
+abbrev pub HEARD-MOST : ℕ
+HEARD-MOST = 2000
+
+-- what writing an answer gives: the text, which is never long where no more octets came than a letter has
+pub record Tells (t came : List ℕ) (p q : Page) : Type 0 where
+  pub text-is : Writes p t q
+  pub short : length came ≤ 115 → length t ≤ HEARD-MOST
+
+-- what the code gives: the world, whether the letter stays, and the text on the page, which has at most so many octets
+pub record Carries (most : ℕ) (x : Carried) (p : Page) (r : code.Carried) (q : Page) : Type 0 where
   pub world-is : worldOf (r .world) ≡ x .world
   pub stays-is : r .stays ≡ x .stays
   pub text-is : Writes p (x .text) q
+  pub short : length (x .text) ≤ most

@@ -12,10 +12,11 @@ use text::put_text;
 use text::words::put_word;
 use world::state::World;
 ghost use mathlib.Core.Path.{_≡_};
+ghost use Prim.Native.Nat.{_*_};
 ghost use Rattle.text.specs.Page.{page, Writes};
 ghost use Rattle.world.specs.World.{worldOf};
 ghost use Rattle.delivery.specs.Hearing.{Carries};
-ghost use Rattle.delivery.specs.Deliveries.{wordFor, headText, carriedOne, carried, Flies};
+ghost use Rattle.delivery.specs.Deliveries.{wordFor, headText, carriedOne, carried, LETTER-MOST, Flies};
 
 // The world after a line, and the place of the pen after its text.
 pub struct Flown {
@@ -57,7 +58,7 @@ fn put_head(out: &mut [u8], at: usize, number: u64, i: u64, l: Letter) -> usize
 
 // The oldest letter is heard, or lost; where it stays under way, nothing is changed.
 fn carry_one(w: World, number: u64, i: u64, hear: bool, out: &mut [u8], at: usize) -> Carried
-    ensures { λ r. ⌜ Carries (carriedOne hear number i (worldOf w)) (page (now (out .entry)) at) r (page (now (out .exit)) (r .at)) ⌝ }
+    ensures { λ r. ⌜ Carries LETTER-MOST (carriedOne hear number i (worldOf w)) (page (now (out .entry)) at) r (page (now (out .exit)) (r .at)) ⌝ }
 {
     let ground = w.ground;
     let air = w.air;
@@ -96,7 +97,7 @@ fn carry_one(w: World, number: u64, i: u64, hear: bool, out: &mut [u8], at: usiz
 
 // The oldest k letters, a line for each, as long as none stays.
 pub fn carry(w: World, number: u64, k: u64, hear: bool, out: &mut [u8], at: usize) -> Flown
-    ensures { λ r. ⌜ Flies (carried hear k number 0 (worldOf w)) (page (now (out .entry)) at) (worldOf (r .world)) (page (now (out .exit)) (r .at)) ⌝ }
+    ensures { λ r. ⌜ Flies (k * LETTER-MOST) (carried hear k number 0 (worldOf w)) (page (now (out .entry)) at) (worldOf (r .world)) (page (now (out .exit)) (r .at)) ⌝ }
 {
     let mut world = w;
     let mut a = at;

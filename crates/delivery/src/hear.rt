@@ -1,17 +1,21 @@
 // What comes of a letter at the end that it is for.
-use bench_line::answer::put_answer;
+use crate::answers::put_air;
+use crate::answers::put_ground;
 use channel::Letter;
 use channel::ROOM;
 use pdu_parts::lists::no_list;
 use refusals::SCRIPT_LINE;
+use sending::END;
 use text::least;
 use text::put_text;
 use world::air_turn::turn_air;
 use world::ground_turn::turn_ground;
 use world::state::World;
+ghost use Prim.Native.Nat.{_≤_};
+ghost use lib.ListN.{length};
 ghost use Rattle.text.specs.Page.{page};
 ghost use Rattle.world.specs.World.{worldOf};
-ghost use Rattle.delivery.specs.Hearing.{Comes, Carries, groundCarried, airCarried, cameTo, comes};
+ghost use Rattle.delivery.specs.Hearing.{Comes, HEARD-MOST, Carries, groundCarried, airCarried, cameTo, comes};
 
 // The world after it, the place of the pen, and whether the letter stays under way, since too many would be after it.
 pub struct Carried {
@@ -27,7 +31,7 @@ pub fn came_count(l: Letter) -> usize
     if l.up {
         return least(l.n, ROOM);
     }
-    if l.kind == 3 {
+    if l.kind == END {
         return 0;
     }
     least(l.n, ROOM)
@@ -35,7 +39,8 @@ pub fn came_count(l: Letter) -> usize
 
 // A letter that no end is told of.
 fn say(w: World, word: &[u8], out: &mut [u8], at: usize) -> Carried
-    ensures { λ r. ⌜ Carries (cameTo (worldOf w) (now (word .entry))) (page (now (out .entry)) at) r (page (now (out .exit)) (r .at)) ⌝ }
+    requires { ⌜ length (now word) ≤ HEARD-MOST ⌝ }
+    ensures { λ r. ⌜ Carries HEARD-MOST (cameTo (worldOf w) (now (word .entry))) (page (now (out .entry)) at) r (page (now (out .exit)) (r .at)) ⌝ }
 {
     let a = put_text(out, at, word);
     Carried {
@@ -46,7 +51,7 @@ fn say(w: World, word: &[u8], out: &mut [u8], at: usize) -> Carried
 }
 
 fn hear_ground(w: World, l: Letter, out: &mut [u8], at: usize) -> Carried
-    ensures { λ r. ⌜ Carries (groundCarried (worldOf w) l) (page (now (out .entry)) at) r (page (now (out .exit)) (r .at)) ⌝ }
+    ensures { λ r. ⌜ Carries HEARD-MOST (groundCarried (worldOf w) l) (page (now (out .entry)) at) r (page (now (out .exit)) (r .at)) ⌝ }
 {
     if !world::ground_turn::is_heard(w, l) {
         return say(w, b"over", out, at);
@@ -56,7 +61,7 @@ fn hear_ground(w: World, l: Letter, out: &mut [u8], at: usize) -> Carried
     let t = turn_ground(w, world::ground_turn::call_for(l.kind), &o[..m]);
     let said = t.said;
     let next = t.world;
-    let a = put_answer(out, at, said, &o[..m]);
+    let a = put_ground(out, at, said, &o[..m]);
     Carried {
         world: next,
         at: a,
@@ -65,7 +70,7 @@ fn hear_ground(w: World, l: Letter, out: &mut [u8], at: usize) -> Carried
 }
 
 fn hear_air(w: World, l: Letter, out: &mut [u8], at: usize) -> Carried
-    ensures { λ r. ⌜ Carries (airCarried (worldOf w) l) (page (now (out .entry)) at) r (page (now (out .exit)) (r .at)) ⌝ }
+    ensures { λ r. ⌜ Carries HEARD-MOST (airCarried (worldOf w) l) (page (now (out .entry)) at) r (page (now (out .exit)) (r .at)) ⌝ }
 {
     if !world::air_turn::is_heard(w, l) {
         return say(w, b"over", out, at);
@@ -81,7 +86,7 @@ fn hear_air(w: World, l: Letter, out: &mut [u8], at: usize) -> Carried
     );
     let said = t.said;
     let next = t.world;
-    let a = air_line::answer::put_answer(out, at, said, &o[..m]);
+    let a = put_air(out, at, said, &o[..m]);
     Carried {
         world: next,
         at: a,
@@ -91,7 +96,7 @@ fn hear_air(w: World, l: Letter, out: &mut [u8], at: usize) -> Carried
 
 // Heard by the end that it is for, or lost.
 pub fn come(w: World, l: Letter, hear: bool, out: &mut [u8], at: usize) -> Carried
-    ensures { λ r. ⌜ Carries (comes hear (worldOf w) l) (page (now (out .entry)) at) r (page (now (out .exit)) (r .at)) ⌝ }
+    ensures { λ r. ⌜ Carries HEARD-MOST (comes hear (worldOf w) l) (page (now (out .entry)) at) r (page (now (out .exit)) (r .at)) ⌝ }
 {
     if !hear {
         return say(w, b"lost", out, at);

@@ -1,2 +1,4 @@
-pub mod Playing
 pub mod Endings
+pub mod Playing
+pub mod Stands
+pub mod Whole

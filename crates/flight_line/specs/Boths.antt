@@ -36,6 +36,10 @@ bothHear w g a = let t = toGround.turned w g [] in bothWith t (toAir.turned (t .
 unfoldable pub bothText : Both → List ℕ
 bothText b = ascii "ground " ++ (groundText.answerText (b .ground) [] ++ (ascii " air " ++ airText.answerText (b .air) []))
 
+-- the most that both say
+abbrev pub BOTH-MOST : ℕ
+BOTH-MOST = 4100
+
 abbrev pub bothReply : Both → Reply World
 bothReply b = record { box = b .world; text = bothText b }
 

@@ -1,7 +1,8 @@
 -- A line of a flight script and the answer to it (docs/FLIGHT.md, "The script").
+use mathlib.Core.Path.{_≡_}
 use mathlib.Core.Bool.{Bool, true, false}
 use mathlib.Core.List.{List, [], _∷_, _++_}
-use Prim.Native.Nat.{ℕ, _+_}
+use Prim.Native.Nat.{ℕ, _+_, _≤_}
 use lib.Dec.{eqb, leb, ltb}
 use lib.ListN.{length, take, drop}
 use Rattle.refusals.specs.Refusals.{SCRIPT-LINE}
@@ -12,12 +13,19 @@ use Rattle.text.specs.declared.digits.Number.{Number}
 use Rattle.text.specs.declared.digits.Number.the-variants.{Value, Unread}
 use Rattle.script.specs.Fields.{numberAfter}
 use Rattle.script.specs.Replies.{Reply}
+use Rattle.script.specs.Trace.{bumped}
+use Rattle.channel.specs.declared.Channel.{Channel}
+use Rattle.channel.specs.Channel.{heldIn, slots}
 use Rattle.world.specs.World.{World}
 use Rattle.delivery.specs.Deliveries.{onto, carried}
 use Rattle.flight_line.specs.Users.{refused}
 use Rattle.flight_line.specs.GroundUsers.{groundUser}
 use Rattle.flight_line.specs.AirUsers.{airUser}
 use Rattle.flight_line.specs.Boths.{elapseReply, cutReply}
+
+-- the most that a line has, with the lines for what came or was thrown away
+abbrev pub LINE-MOST : ℕ
+LINE-MOST = 65000
 
 -- the end of a line
 unfoldable pub ended : Reply World → Reply World
@@ -43,6 +51,11 @@ airLine w line = ended (onto (ascii "air ") (airUser w (restOf line)))
 unfoldable pub elapseLine : World → Number → Reply World
 elapseLine w (Value n) = pick (bothReady w) (ended (elapseReply w n)) (refusedLine w)
 elapseLine w Unread = refusedLine w
+
+-- what `under_way` gives: how many letters there are, which is no more than there are slots
+pub record UnderWay (c : Channel) (r : ℕ) : Type 0 where
+  pub is : r ≡ length (heldIn c)
+  pub most : r ≤ slots
 
 -- of how many `deliver` and `lose` speak: all that is under way, or N; 0 where N is more than that or is no number
 unfoldable pub countOf : ℕ → Number → ℕ
@@ -86,3 +99,8 @@ flightAs w number line k =
 unfoldable pub flightLine : World → ℕ → List ℕ → Reply World
 flightLine w number line =
     pick (ltb 4096 (length line)) (refusedLine w) (flightAs w number line (foundFrom 0 (take (wordEnd line) line) flightWords))
+
+-- the world after some lines, which come after n others
+abbrev pub worldOn : ℕ → World → List (List ℕ) → World
+worldOn n w [] = w
+worldOn n w (l ∷ ls) = worldOn (bumped n) (flightLine w (bumped n) l .box) ls

@@ -17,6 +17,10 @@ userWords = [] ∷ ascii "set" ∷ ascii "req" ∷ ascii "user-abort" ∷ []
 unfoldable pub isUser : List ℕ → Bool
 isUser line = ltb 0 (foundFrom 0 (take (wordEnd line) line) userWords)
 
+-- the most that an answer to a line has, as at the bench of an end
+abbrev pub ANSWER-MOST : ℕ
+ANSWER-MOST = 34000
+
 -- a refusal changes nothing
 unfoldable pub refused : World → ℕ → Reply World
 refused w n = record { box = w; text = refusedText n }

@@ -15,11 +15,12 @@ ghost use Rattle.text.specs.Page.{page};
 ghost use Rattle.world.specs.World.{worldOf};
 ghost use Rattle.air_line.specs.Lines.{parsedLine};
 ghost use Rattle.delivery.specs.Deliveries.{Flies};
+ghost use Rattle.flight_line.specs.Users.{ANSWER-MOST};
 ghost use Rattle.flight_line.specs.AirUsers.{airAsked, airSet, airUser};
 
 // A line of an aircraft that has its setting.
 fn ask_air(w: World, line: &[u8], out: &mut [u8], at: usize) -> Flown
-    ensures { λ r. ⌜ Flies (airAsked (worldOf w) (parsedLine (now (line .entry)))) (page (now (out .entry)) at) (worldOf (r .world)) (page (now (out .exit)) (r .at)) ⌝ }
+    ensures { λ r. ⌜ Flies ANSWER-MOST (airAsked (worldOf w) (parsedLine (now (line .entry)))) (page (now (out .entry)) at) (worldOf (r .world)) (page (now (out .exit)) (r .at)) ⌝ }
 {
     let mut octets = line_room();
     let told = parse_line(line, &mut octets);
@@ -38,7 +39,7 @@ fn ask_air(w: World, line: &[u8], out: &mut [u8], at: usize) -> Flown
 
 // A line of an aircraft that has none.
 fn set_air(w: World, line: &[u8], out: &mut [u8], at: usize) -> Flown
-    ensures { λ r. ⌜ Flies (airSet (worldOf w) (now (line .entry))) (page (now (out .entry)) at) (worldOf (r .world)) (page (now (out .exit)) (r .at)) ⌝ }
+    ensures { λ r. ⌜ Flies ANSWER-MOST (airSet (worldOf w) (now (line .entry))) (page (now (out .entry)) at) (worldOf (r .world)) (page (now (out .exit)) (r .at)) ⌝ }
 {
     let ground = w.ground;
     let setup = w.air;
@@ -58,7 +59,7 @@ fn set_air(w: World, line: &[u8], out: &mut [u8], at: usize) -> Flown
 }
 
 pub fn use_air(w: World, line: &[u8], out: &mut [u8], at: usize) -> Flown
-    ensures { λ r. ⌜ Flies (airUser (worldOf w) (now (line .entry))) (page (now (out .entry)) at) (worldOf (r .world)) (page (now (out .exit)) (r .at)) ⌝ }
+    ensures { λ r. ⌜ Flies ANSWER-MOST (airUser (worldOf w) (now (line .entry))) (page (now (out .entry)) at) (worldOf (r .world)) (page (now (out .exit)) (r .at)) ⌝ }
 {
     if !is_user(line) {
         return refuse(w, SCRIPT_LINE, out, at);

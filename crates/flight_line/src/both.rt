@@ -1,5 +1,7 @@
 // What both ends hear, the ground first.
 use crate::user::refuse;
+use delivery::answers::put_air;
+use delivery::answers::put_ground;
 use delivery::carry::Flown;
 use pdu_parts::lists::no_list;
 use text::put_text;
@@ -7,10 +9,11 @@ use world::air_turn::turn_air;
 use world::ground_turn::turn_ground;
 use world::state::World;
 ghost use mathlib.Core.Path.{_≡_};
-ghost use Rattle.text.specs.Page.{page, Writes};
+ghost use Rattle.text.specs.Page.{page};
 ghost use Rattle.world.specs.World.{worldOf};
 ghost use Rattle.delivery.specs.Deliveries.{Flies};
-ghost use Rattle.flight_line.specs.Boths.{bothOf, bothHear, bothText, elapseReply, cutReply};
+ghost use Rattle.flight_line.specs.Users.{ANSWER-MOST};
+ghost use Rattle.flight_line.specs.Boths.{bothOf, bothHear, BOTH-MOST, bothReply, elapseReply, cutReply};
 
 // The world after both, and what each said.
 pub struct Both {
@@ -31,20 +34,22 @@ fn hear_both(w: World, g: ground::call::Call, a: air::call::Call) -> Both
     Both { world, ground, air }
 }
 
-fn put_both(out: &mut [u8], at: usize, b: Both) -> usize
-    ensures { λ r. ⌜ Writes (page (now (out .entry)) at) (bothText (bothOf b)) (page (now (out .exit)) r) ⌝ }
+fn tell_both(b: Both, out: &mut [u8], at: usize) -> Flown
+    ensures { λ r. ⌜ Flies BOTH-MOST (bothReply (bothOf b)) (page (now (out .entry)) at) (worldOf (r .world)) (page (now (out .exit)) (r .at)) ⌝ }
 {
     let ground = b.ground;
     let air = b.air;
     let a = put_text(out, at, b"ground ");
-    let e = bench_line::answer::put_answer(out, a, ground, b"");
+    let e = put_ground(out, a, ground, b"");
     let c = put_text(out, e, b" air ");
-    air_line::answer::put_answer(out, c, air, b"")
+    let d = put_air(out, c, air, b"");
+    let world = b.world;
+    Flown { world, at: d }
 }
 
 // Seconds pass at both ends, unless one refuses.
 pub fn elapse_both(w: World, n: u32, out: &mut [u8], at: usize) -> Flown
-    ensures { λ r. ⌜ Flies (elapseReply (worldOf w) n) (page (now (out .entry)) at) (worldOf (r .world)) (page (now (out .exit)) (r .at)) ⌝ }
+    ensures { λ r. ⌜ Flies ANSWER-MOST (elapseReply (worldOf w) n) (page (now (out .entry)) at) (worldOf (r .world)) (page (now (out .exit)) (r .at)) ⌝ }
 {
     let b = hear_both(w, ground::call::Call::Elapse(n), air::call::Call::Elapse(n));
     let ground = b.ground;
@@ -57,17 +62,13 @@ pub fn elapse_both(w: World, n: u32, out: &mut [u8], at: usize) -> Flown
     if second != 0 {
         return refuse(w, second, out, at);
     }
-    let a = put_both(out, at, b);
-    let world = b.world;
-    Flown { world, at: a }
+    tell_both(b, out, at)
 }
 
 // Both ends hear that the provider failed.
 pub fn cut_both(w: World, out: &mut [u8], at: usize) -> Flown
-    ensures { λ r. ⌜ Flies (cutReply (worldOf w)) (page (now (out .entry)) at) (worldOf (r .world)) (page (now (out .exit)) (r .at)) ⌝ }
+    ensures { λ r. ⌜ Flies BOTH-MOST (cutReply (worldOf w)) (page (now (out .entry)) at) (worldOf (r .world)) (page (now (out .exit)) (r .at)) ⌝ }
 {
     let b = hear_both(w, ground::call::Call::Down, air::call::Call::Down);
-    let a = put_both(out, at, b);
-    let world = b.world;
-    Flown { world, at: a }
+    tell_both(b, out, at)
 }

@@ -15,11 +15,12 @@ ghost use Rattle.text.specs.Page.{page};
 ghost use Rattle.world.specs.World.{worldOf};
 ghost use Rattle.bench_line.specs.Lines.{parsedLine};
 ghost use Rattle.delivery.specs.Deliveries.{Flies};
+ghost use Rattle.flight_line.specs.Users.{ANSWER-MOST};
 ghost use Rattle.flight_line.specs.GroundUsers.{groundAsked, groundSet, groundUser};
 
 // A line of a ground that has its settings.
 fn ask_ground(w: World, line: &[u8], out: &mut [u8], at: usize) -> Flown
-    ensures { λ r. ⌜ Flies (groundAsked (worldOf w) (parsedLine (now (line .entry)))) (page (now (out .entry)) at) (worldOf (r .world)) (page (now (out .exit)) (r .at)) ⌝ }
+    ensures { λ r. ⌜ Flies ANSWER-MOST (groundAsked (worldOf w) (parsedLine (now (line .entry)))) (page (now (out .entry)) at) (worldOf (r .world)) (page (now (out .exit)) (r .at)) ⌝ }
 {
     let mut octets = line_room();
     let told = parse_line(line, &mut octets);
@@ -36,7 +37,7 @@ fn ask_ground(w: World, line: &[u8], out: &mut [u8], at: usize) -> Flown
 
 // A line of a ground that has none.
 fn set_ground(w: World, line: &[u8], out: &mut [u8], at: usize) -> Flown
-    ensures { λ r. ⌜ Flies (groundSet (worldOf w) (now (line .entry))) (page (now (out .entry)) at) (worldOf (r .world)) (page (now (out .exit)) (r .at)) ⌝ }
+    ensures { λ r. ⌜ Flies ANSWER-MOST (groundSet (worldOf w) (now (line .entry))) (page (now (out .entry)) at) (worldOf (r .world)) (page (now (out .exit)) (r .at)) ⌝ }
 {
     let setup = w.ground;
     let air = w.air;
@@ -56,7 +57,7 @@ fn set_ground(w: World, line: &[u8], out: &mut [u8], at: usize) -> Flown
 }
 
 pub fn use_ground(w: World, line: &[u8], out: &mut [u8], at: usize) -> Flown
-    ensures { λ r. ⌜ Flies (groundUser (worldOf w) (now (line .entry))) (page (now (out .entry)) at) (worldOf (r .world)) (page (now (out .exit)) (r .at)) ⌝ }
+    ensures { λ r. ⌜ Flies ANSWER-MOST (groundUser (worldOf w) (now (line .entry))) (page (now (out .entry)) at) (worldOf (r .world)) (page (now (out .exit)) (r .at)) ⌝ }
 {
     if !is_user(line) {
         return refuse(w, SCRIPT_LINE, out, at);

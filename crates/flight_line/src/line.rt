@@ -4,6 +4,7 @@ use crate::both::cut_both;
 use crate::both::elapse_both;
 use crate::ground_user::use_ground;
 use crate::user::refuse;
+use channel::Channel;
 use channel::count;
 use delivery::carry::Flown;
 use delivery::carry::carry;
@@ -20,14 +21,14 @@ ghost use Rattle.text.specs.Page.{page};
 ghost use Rattle.script.specs.Fields.{numberAfter};
 ghost use Rattle.world.specs.World.{worldOf};
 ghost use Rattle.delivery.specs.Deliveries.{Flies};
-ghost use Rattle.flight_line.specs.Lines.{refusedLine, bothReady, restOf, groundLine, airLine, elapseLine, countIn, carryLine, cutLine, otherLine, flightLine};
+ghost use Rattle.flight_line.specs.Lines.{LINE-MOST, refusedLine, bothReady, restOf, groundLine, airLine, elapseLine, UnderWay, countIn, carryLine, cutLine, otherLine, flightLine};
 
 // A line with more octets is not readable.
 const LONGEST: usize = 4096;
 
 // A refusal, with the end of the line.
 fn refuse_line(w: World, out: &mut [u8], at: usize) -> Flown
-    ensures { λ r. ⌜ Flies (refusedLine (worldOf w)) (page (now (out .entry)) at) (worldOf (r .world)) (page (now (out .exit)) (r .at)) ⌝ }
+    ensures { λ r. ⌜ Flies LINE-MOST (refusedLine (worldOf w)) (page (now (out .entry)) at) (worldOf (r .world)) (page (now (out .exit)) (r .at)) ⌝ }
 {
     let f = refuse(w, SCRIPT_LINE, out, at);
     let world = f.world;
@@ -56,7 +57,7 @@ fn rest_of(line: &[u8]) -> &[u8]
 }
 
 fn ground_line(w: World, line: &[u8], out: &mut [u8], at: usize) -> Flown
-    ensures { λ r. ⌜ Flies (groundLine (worldOf w) (now (line .entry))) (page (now (out .entry)) at) (worldOf (r .world)) (page (now (out .exit)) (r .at)) ⌝ }
+    ensures { λ r. ⌜ Flies LINE-MOST (groundLine (worldOf w) (now (line .entry))) (page (now (out .entry)) at) (worldOf (r .world)) (page (now (out .exit)) (r .at)) ⌝ }
 {
     let a = put_text(out, at, b"ground ");
     let f = use_ground(w, rest_of(line), out, a);
@@ -66,7 +67,7 @@ fn ground_line(w: World, line: &[u8], out: &mut [u8], at: usize) -> Flown
 }
 
 fn air_line(w: World, line: &[u8], out: &mut [u8], at: usize) -> Flown
-    ensures { λ r. ⌜ Flies (airLine (worldOf w) (now (line .entry))) (page (now (out .entry)) at) (worldOf (r .world)) (page (now (out .exit)) (r .at)) ⌝ }
+    ensures { λ r. ⌜ Flies LINE-MOST (airLine (worldOf w) (now (line .entry))) (page (now (out .entry)) at) (worldOf (r .world)) (page (now (out .exit)) (r .at)) ⌝ }
 {
     let a = put_text(out, at, b"air ");
     let f = use_air(w, rest_of(line), out, a);
@@ -76,7 +77,7 @@ fn air_line(w: World, line: &[u8], out: &mut [u8], at: usize) -> Flown
 }
 
 fn elapse_line(w: World, tail: &[u8], out: &mut [u8], at: usize) -> Flown
-    ensures { λ r. ⌜ Flies (elapseLine (worldOf w) (numberAfter (now (tail .entry)))) (page (now (out .entry)) at) (worldOf (r .world)) (page (now (out .exit)) (r .at)) ⌝ }
+    ensures { λ r. ⌜ Flies LINE-MOST (elapseLine (worldOf w) (numberAfter (now (tail .entry)))) (page (now (out .entry)) at) (worldOf (r .world)) (page (now (out .exit)) (r .at)) ⌝ }
 {
     let v = number_after(tail);
     let Number::Value(n) = v else {
@@ -109,15 +110,21 @@ fn count_in(have: u64, tail: &[u8]) -> u64
     0
 }
 
+fn under_way(c: Channel) -> u64
+    ensures { λ r. ⌜ UnderWay c r ⌝ }
+{
+    count(c) as u64
+}
+
 // Letters come, or are thrown away.
 fn carry_line(w: World, number: u64, tail: &[u8], hear: bool, out: &mut [u8], at: usize) -> Flown
-    ensures { λ r. ⌜ Flies (carryLine (worldOf w) number (now (tail .entry)) hear) (page (now (out .entry)) at) (worldOf (r .world)) (page (now (out .exit)) (r .at)) ⌝ }
+    ensures { λ r. ⌜ Flies LINE-MOST (carryLine (worldOf w) number (now (tail .entry)) hear) (page (now (out .entry)) at) (worldOf (r .world)) (page (now (out .exit)) (r .at)) ⌝ }
 {
     if !both_ready(w) {
         return refuse_line(w, out, at);
     }
     let held = w.held;
-    let k = count_in(count(held) as u64, tail);
+    let k = count_in(under_way(held), tail);
     if k == 0 {
         return refuse_line(w, out, at);
     }
@@ -126,7 +133,7 @@ fn carry_line(w: World, number: u64, tail: &[u8], hear: bool, out: &mut [u8], at
 }
 
 fn cut_line(w: World, number: u64, tail: &[u8], out: &mut [u8], at: usize) -> Flown
-    ensures { λ r. ⌜ Flies (cutLine (worldOf w) number (now (tail .entry))) (page (now (out .entry)) at) (worldOf (r .world)) (page (now (out .exit)) (r .at)) ⌝ }
+    ensures { λ r. ⌜ Flies LINE-MOST (cutLine (worldOf w) number (now (tail .entry))) (page (now (out .entry)) at) (worldOf (r .world)) (page (now (out .exit)) (r .at)) ⌝ }
 {
     if tail.len() != 0 {
         return refuse_line(w, out, at);
@@ -138,12 +145,12 @@ fn cut_line(w: World, number: u64, tail: &[u8], out: &mut [u8], at: usize) -> Fl
     let world = f.world;
     let held = world.held;
     let e = put_byte(out, f.at, 10);
-    carry(world, number, count(held) as u64, false, out, e)
+    carry(world, number, under_way(held), false, out, e)
 }
 
 // A line for both ends or the channel, by the number of its word.
 fn other_line(w: World, number: u64, word: usize, tail: &[u8], out: &mut [u8], at: usize) -> Flown
-    ensures { λ r. ⌜ Flies (otherLine (worldOf w) number word (now (tail .entry))) (page (now (out .entry)) at) (worldOf (r .world)) (page (now (out .exit)) (r .at)) ⌝ }
+    ensures { λ r. ⌜ Flies LINE-MOST (otherLine (worldOf w) number word (now (tail .entry))) (page (now (out .entry)) at) (worldOf (r .world)) (page (now (out .exit)) (r .at)) ⌝ }
 {
     match word {
         3 => elapse_line(w, tail, out, at),
@@ -156,7 +163,7 @@ fn other_line(w: World, number: u64, word: usize, tail: &[u8], out: &mut [u8], a
 
 // The answer to a line with a number, and the lines for what came or was lost.
 pub fn fly_line(w: World, number: u64, line: &[u8], out: &mut [u8], at: usize) -> Flown
-    ensures { λ r. ⌜ Flies (flightLine (worldOf w) number (now (line .entry))) (page (now (out .entry)) at) (worldOf (r .world)) (page (now (out .exit)) (r .at)) ⌝ }
+    ensures { λ r. ⌜ Flies LINE-MOST (flightLine (worldOf w) number (now (line .entry))) (page (now (out .entry)) at) (worldOf (r .world)) (page (now (out .exit)) (r .at)) ⌝ }
 {
     if LONGEST < line.len() {
         return refuse_line(w, out, at);

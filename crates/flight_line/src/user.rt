@@ -8,11 +8,11 @@ ghost use mathlib.Core.Path.{_≡_};
 ghost use Rattle.text.specs.Page.{page};
 ghost use Rattle.world.specs.World.{worldOf};
 ghost use Rattle.delivery.specs.Deliveries.{Flies};
-ghost use Rattle.flight_line.specs.Users.{isUser, refused};
+ghost use Rattle.flight_line.specs.Users.{isUser, ANSWER-MOST, refused};
 
 // A refusal, which changes nothing.
 pub fn refuse(w: World, n: u8, out: &mut [u8], at: usize) -> Flown
-    ensures { λ r. ⌜ Flies (refused (worldOf w) n) (page (now (out .entry)) at) (worldOf (r .world)) (page (now (out .exit)) (r .at)) ⌝ }
+    ensures { λ r. ⌜ Flies ANSWER-MOST (refused (worldOf w) n) (page (now (out .entry)) at) (worldOf (r .world)) (page (now (out .exit)) (r .at)) ⌝ }
 {
     let a = put_refused(out, at, n);
     Flown { world: w, at: a }

@@ -33,8 +33,7 @@ use Rattle.flight_line.specs.Users.{isUser, refused}
 use Rattle.flight_line.specs.GroundUsers as ofGround
 use Rattle.flight_line.specs.AirUsers as ofAir
 use Rattle.flight_line.specs.Boths.{Both, bothWith, bothHear, unlessRefused, elapseReply, cutReply}
-use Rattle.flight_line.specs.Lines.{ended, refusedLine, bothReady, restOf, countOf, countIn, flightWords, groundLine, airLine, elapseLine, carryCount, carryLine, thenLost, cutLine, otherLine, flightAs, flightLine}
-use Rattle.flight_promises.specs.Flights.{worldOn}
+use Rattle.flight_line.specs.Lines.{ended, refusedLine, bothReady, restOf, countOf, countIn, flightWords, groundLine, airLine, elapseLine, carryCount, carryLine, thenLost, cutLine, otherLine, flightAs, flightLine, worldOn}
 use Rattle.flight_promises.specs.Fitting.{letterFits, allFit}
 use Rattle.flight_promises.specs.Shown.{Fair, noneInvalid, groundAsks, airAsks, groundShows, airShows, bothShow, elapseShows, cutShows, letterShows, carriedShow, deliverShows, showsAs, lineShows, shownOn, NeverInvalid}
 use Rattle.flight_promises.proofs.Goings.{both-on}

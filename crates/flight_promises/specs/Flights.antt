@@ -2,15 +2,14 @@
 -- the air, which holds after any sequence of calls, holds in flight. And never more than 16 letters are under way.
 use mathlib.Core.Path.{_≡_}
 use mathlib.Core.Bool.{true}
-use mathlib.Core.List.{List, [], _∷_}
+use mathlib.Core.List.{List}
 use Prim.Native.Nat.{ℕ, _≤_}
 use lib.ListN.{length}
 use Rattle.sides.specs.Runs.{Side, after}
 use Rattle.ground.specs.Runs.{ground}
 use Rattle.air.specs.Runs.{airSide}
 use Rattle.world.specs.World.{World, MOST}
-use Rattle.script.specs.Trace.{bumped}
-use Rattle.flight_line.specs.Lines.{flightLine}
+use Rattle.flight_line.specs.Lines.{worldOn}
 
 -- a record is another after some calls
 pub record Own (s : Side) (r q : s .Rec) : Type 0 where
@@ -22,11 +21,6 @@ pub record Kept (w v : World) : Type 0 where
   pub of-ground : w .ground .ready ≡ true → (v .ground .ready ≡ true) × Own ground (w .ground .link) (v .ground .link)
   pub of-air : w .air .ready ≡ true → (v .air .ready ≡ true) × Own airSide (w .air .link) (v .air .link)
   pub no-more : length (w .under) ≤ MOST → length (v .under) ≤ MOST
-
--- the world after some lines, which come after n others
-abbrev pub worldOn : ℕ → World → List (List ℕ) → World
-worldOn n w [] = w
-worldOn n w (l ∷ ls) = worldOn (bumped n) (flightLine w (bumped n) l .box) ls
 
 -- after any lines of a flight
 abbrev pub Flights : Type 0

@@ -28,9 +28,8 @@ use Rattle.delivery.specs.Hearing.{came}
 use Rattle.delivery.specs.Deliveries.{without, carriedOne}
 use Rattle.flight_line.specs.Users.{isUser}
 use Rattle.flight_line.specs.Boths.{Both, bothHear}
-use Rattle.flight_line.specs.Lines.{bothReady, restOf, countIn, flightWords, flightLine}
+use Rattle.flight_line.specs.Lines.{bothReady, restOf, countIn, flightWords, flightLine, worldOn}
 use Rattle.flight_promises.specs.Fitting.{allFit}
-use Rattle.flight_promises.specs.Flights.{worldOn}
 
 -- the answer to what a user asks
 unfoldable pub groundAsks : World → Parsed ground.Call → List ℕ

@@ -11,10 +11,12 @@ ghost use mathlib.Core.Path.{_≡_};
 ghost use lib.ListN.{length, take};
 ghost use Rattle.sending.specs.Ways.{wayOf, kindOf, numberFor, sentAs, sentEntry, sentAll};
 
-// Kinds of letters are entries of an action list: 1, of which the ground's is a start request; and beside them an abort without a PDU, the user's.
-const START: u8 = 1;
+// Kinds of letters are entries of an action list: 1, of which the ground's is a start request, to 4; and beside them an abort without a PDU, the user's.
+pub const START: u8 = 1;
 
-const USER_ABORT: u8 = 5;
+pub const END: u8 = 3;
+
+pub const USER_ABORT: u8 = 5;
 
 // What is under way, and the number of the dialogue of which more is sent.
 pub struct Way {

@@ -9,8 +9,13 @@ use air_answer::sent::ROOM;
 use air_bench::reply::Setup;
 use channel::Letter;
 use channel::count;
+use link::actions::ABORT_REQUEST;
+use link::moves::IDLE;
 use pdu_parts::lists::Listed;
 use refusals::SCRIPT_LINE;
+use sending::END;
+use sending::START;
+use sending::USER_ABORT;
 use sending::Way;
 use sending::send_all;
 use text::least;
@@ -88,13 +93,13 @@ pub fn turn_air(w: World, number: u64, call: Call, list: Listed, octets: &[u8]) 
 pub fn is_heard(w: World, l: Letter) -> bool
     ensures { λ r. ⌜ r ≡ hears (worldOf w) l ⌝ }
 {
-    if l.kind == 1 {
+    if l.kind == START {
         return true;
     }
     let setup = w.air;
     let link = setup.link;
     let at = link.at;
-    if at[4] == 0 {
+    if at[4] == IDLE {
         return false;
     }
     l.number == w.taken
@@ -105,10 +110,10 @@ pub fn call_for(kind: u8) -> Call
     ensures { λ r. ⌜ r ≡ callFor kind ⌝ }
 {
     match kind {
-        1 => Call::StartInd,
-        3 => Call::EndInd,
-        4 => Call::GroundAbort,
-        5 => Call::PeerAbort,
+        START => Call::StartInd,
+        END => Call::EndInd,
+        ABORT_REQUEST => Call::GroundAbort,
+        USER_ABORT => Call::PeerAbort,
         _ => Call::Data,
     }
 }

@@ -9,7 +9,12 @@ use ground::call::answer;
 use ground_answer::answer::Said;
 use ground_answer::answer::refuse;
 use ground_answer::sent::SENT_MOST;
+use link::actions::ABORT_REQUEST;
+use link::moves::IDLE;
 use refusals::SCRIPT_LINE;
+use sending::END;
+use sending::START;
+use sending::USER_ABORT;
 use sending::Way;
 use sending::send_all;
 use text::least;
@@ -82,7 +87,7 @@ pub fn is_heard(w: World, l: Letter) -> bool
     let setup = w.ground;
     let link = setup.link;
     let at = link.at;
-    if at[4] == 0 {
+    if at[4] == IDLE {
         return false;
     }
     l.number == w.last
@@ -93,10 +98,10 @@ pub fn call_for(kind: u8) -> Call
     ensures { λ r. ⌜ r ≡ callFor kind ⌝ }
 {
     match kind {
-        1 => Call::StartConfirm,
-        3 => Call::EndConfirm,
-        4 => Call::AirAbort,
-        5 => Call::PeerAbort,
+        START => Call::StartConfirm,
+        END => Call::EndConfirm,
+        ABORT_REQUEST => Call::AirAbort,
+        USER_ABORT => Call::PeerAbort,
         _ => Call::Data,
     }
 }

@@ -1,17 +1,17 @@
 use borrow.Author.Needs.{needs}
 use Rattle.delivery.proofs.Laws.{carry-goes, carry-stays, carry-ends}
-use Rattle.delivery.specs.Deliveries.{carried, Flies}
+use Rattle.delivery.specs.Deliveries.{carried, LETTER-MOST, Flies}
 use Rattle.world.specs.World.{World, worldOf}
 use Rattle.text.specs.Page.{Page, page}
 use lib.ListN.{length}
 use native.Mathlib.Omega.{arith}
-use Prim.Native.Nat.{_-_, _≤_}
+use Prim.Native.Nat.{_-_, _*_, _≤_}
 use mathlib.Core.Path.{_≡_, refl, _∙_}
 use Rattle.delivery.proofs.carry.carry.Statement.{statement}
 use Rattle.delivery.proofs.carry.carry.Tie as tie
 
 abbrev Inv-loop : tie.InvT-loop
-Inv-loop number k hear out₀ at world₀ a₀ i₀ out world a i = (i ≤ k) × (length out ≡ length out₀) × ((v : World) (q : Page) → Flies (carried hear (k - i) number i (worldOf world)) (page out a) v q → Flies (carried hear k number 0 (worldOf world₀)) (page out₀ a₀) v q)
+Inv-loop number k hear out₀ at world₀ a₀ i₀ out world a i = (i ≤ k) × (length out ≡ length out₀) × ((v : World) (q : Page) → Flies ((k - i) * LETTER-MOST) (carried hear (k - i) number i (worldOf world)) (page out a) v q → Flies (k * LETTER-MOST) (carried hear k number 0 (worldOf world₀)) (page out₀ a₀) v q)
 
 abbrev μ-loop : tie.MeasureT-loop
 μ-loop number k hear out₀ at world₀ a₀ i₀ out world a i = k - i

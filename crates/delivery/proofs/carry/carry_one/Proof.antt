@@ -1,6 +1,8 @@
 use Rattle.delivery.specs.Deliveries.{without, carriedWith, carriedOne}
+use Rattle.delivery.proofs.Short.{line-short}
 use Rattle.text.proofs.Pages.{after}
-use mathlib.Core.Path.{refl}
+use lib.ListN.{length}
+use mathlib.Core.Path.{_≡_, refl}
 use borrow.Author.Needs.{needs}
 use Rattle.delivery.proofs.carry.carry_one.Statement.{statement}
 use Rattle.delivery.proofs.carry.carry_one.Tie as tie
@@ -27,8 +29,10 @@ returns : tie.Need-returns
 unfolding carriedOne carriedWith without
 returns c =
     let k = c .before .before .before .before .before .before .before .come .ensures in
+    let o = c .before .before .before .before .before .before .before .before .before .before .before .before .before .before .oldest in
+    let whole : length (o .result .octets) ≡ 115 = search (needs, o .ok) in
     rw (← c .before .before .before .before .before .before .before .before .before .before .before .before .before .before .oldest .ensures, ← c .before .before .before .before .before .before .before .before .before .before .before .before .before .pass .ensures, ← k .stays-is, c .if1 .taken)
-    (record { world-is = refl; stays-is = refl; text-is = after (c .before .before .before .before .before .before .before .before .before .before .before .put-head .ensures) (after (k .text-is) (c .before .before .before .put-byte .ensures)) })
+    (record { world-is = refl; stays-is = refl; text-is = after (c .before .before .before .before .before .before .before .before .before .before .before .put-head .ensures) (after (k .text-is) (c .before .before .before .put-byte .ensures)); short = line-short _ _ (o .result) whole k })
 
 same-length-2 : tie.Need-same-length-2
 same-length-2 c = search needs
@@ -37,8 +41,10 @@ returns-2 : tie.Need-returns-2
 unfolding carriedOne carriedWith without
 returns-2 c =
     let k = c .before .before .before .before .before .before .before .before .come .ensures in
+    let o = c .before .before .before .before .before .before .before .before .before .before .before .before .before .before .before .oldest in
+    let whole : length (o .result .octets) ≡ 115 = search (needs, o .ok) in
     rw (← c .before .before .before .before .before .before .before .before .before .before .before .before .before .before .before .oldest .ensures, ← c .before .before .before .before .before .before .before .before .before .before .before .before .before .before .pass .ensures, ← k .stays-is, c .before .if1 .left)
-    (record { world-is = k .world-is; stays-is = refl; text-is = after (c .before .before .before .before .before .before .before .before .before .before .before .before .put-head .ensures) (after (k .text-is) (c .before .before .before .before .put-byte .ensures)) })
+    (record { world-is = k .world-is; stays-is = refl; text-is = after (c .before .before .before .before .before .before .before .before .before .before .before .before .put-head .ensures) (after (k .text-is) (c .before .before .before .before .put-byte .ensures)); short = line-short _ _ (o .result) whole k })
 
 pub carry-one-spec : {M : Type 1} → statement M
 carry-one-spec =

@@ -1,12 +1,18 @@
 use Rattle.delivery.proofs.Laws.{air-over, air-told}
+use Rattle.delivery.proofs.Short.{taken}
 use Rattle.delivery.specs.Hearing.{airSaid}
 use Rattle.world.specs.World.{worldOf}
 use lib.Seq.{length-take-le}
 use borrow.Author.Tests.{not-true, not-false}
-use mathlib.Core.Path.{refl, sym, _∙_}
+use native.Mathlib.Omega.{arith}
+use lib.ListN.{length}
+use mathlib.Core.Path.{_≡_, refl, sym, _∙_}
 use borrow.Author.Needs.{needs}
 use Rattle.delivery.proofs.hear.hear_air.Statement.{statement}
 use Rattle.delivery.proofs.hear.hear_air.Tie as tie
+
+whole : (c : tie.Start) → length (c .args .l .octets) ≡ 115
+whole c = search needs
 
 is-heard-requires : tie.Need-is-heard-requires
 is-heard-requires c κs = search needs
@@ -44,11 +50,11 @@ turn-air-requires c κs = search needs
 array-share-prefix-o-2 : tie.Need-array-share-prefix-o-2
 array-share-prefix-o-2 c = c .before .before .before .before .before .before .before .before .came-count .ensures .within
 
-slice-aggregate-put-answer : tie.Need-slice-aggregate-put-answer
-slice-aggregate-put-answer c = sym (length-take-le _ _ (c .before .before .before .before .before .before .before .before .before .came-count .ensures .within))
+slice-aggregate-put-air : tie.Need-slice-aggregate-put-air
+slice-aggregate-put-air c = sym (length-take-le _ _ (c .before .before .before .before .before .before .before .before .before .came-count .ensures .within))
 
-put-answer-requires : tie.Need-put-answer-requires
-put-answer-requires c κs = search needs
+put-air-requires : tie.Need-put-air-requires
+put-air-requires c κs = search needs
 
 same-length-2 : tie.Need-same-length-2
 same-length-2 c = search needs
@@ -60,7 +66,7 @@ returns-2 c =
     let t = c .before .before .before .before .before .before .before .before .turn-air in
     let h = c .before .before .before .before .before .before .before .before .before .before .before .before .before .before .before .is-heard in
     rw (air-told (worldOf (s .args .w)) (s .args .l) (sym (h .ensures) ∙ not-false (h .result) (c .before .before .before .before .before .before .before .before .before .before .before .before .before .before .if1 .left)), ← c .before .before .before .before .before .before .before .before .before .before .before .before .before .came-count .ensures .is, ← c .before .before .before .before .before .before .before .before .before .before .before .call-for .ensures, ← c .before .before .before .before .before .before .before .before .before .before .no-list .ensures, ← t .ensures)
-    (record { world-is = refl; stays-is = refl; text-is = c .before .before .before .put-answer .ensures .text-is })
+    (record { world-is = refl; stays-is = refl; text-is = c .before .before .before .put-air .ensures .text-is; short = c .before .before .before .put-air .ensures .short (taken (c .before .before .before .before .before .before .before .before .before .before .before .before .before .came-count .result) (s .args .l .octets) (omega (arith, whole s))) })
 
 pub hear-air-spec : {M : Type 1} → statement M
 hear-air-spec =
@@ -78,7 +84,7 @@ hear-air-spec =
     slice-aggregate-turn-air
     turn-air-requires
     array-share-prefix-o-2
-    slice-aggregate-put-answer
-    put-answer-requires
+    slice-aggregate-put-air
+    put-air-requires
     same-length-2
     returns-2)

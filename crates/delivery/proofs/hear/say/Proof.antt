@@ -12,7 +12,7 @@ same-length c = search needs
 
 returns : tie.Need-returns
 unfolding cameTo
-returns c = record { world-is = refl; stays-is = refl; text-is = c .before .before .put-text .ensures }
+returns c = record { world-is = refl; stays-is = refl; text-is = c .before .before .put-text .ensures; short = c .before .before .before .before .before .before .pre }
 
 pub say-spec : {M : Type 1} → statement M
 say-spec = tie.close (tie.spec put-text-requires same-length returns)

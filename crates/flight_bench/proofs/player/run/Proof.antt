@@ -15,7 +15,7 @@ use Rattle.flight_bench.proofs.player.run.Statement.{statement}
 use Rattle.flight_bench.proofs.player.run.Tie as tie
 
 abbrev Inv-loop : tie.InvT-loop
-Inv-loop chunk₀ line₀ out₀ e₀ input₀ turns₀ chunk line out e input turns = (length chunk ≡ length chunk₀) × (length line ≡ length line₀) × (length out ≡ length out₀) × ((n : ℕ) (b : World) (f : Bool) → Plays (length line₀) (leftOf input chunk) (e .number) (worldOf (e .world)) n b f → Plays (length line₀) (left true []) (e₀ .number) (worldOf (e₀ .world)) n b f)
+Inv-loop chunk₀ line₀ out₀ e₀ input₀ turns₀ chunk line out e input turns = (length chunk ≡ length chunk₀) × (length line ≡ length line₀) × (length out ≡ length out₀) × ((n : ℕ) (b : World) (a : ℕ) (f : Bool) → Plays (length line₀) (leftOf input chunk) (e .number) (worldOf (e .world)) n b a f → Plays (length line₀) (left true []) (e₀ .number) (worldOf (e₀ .world)) n b a f)
 
 abbrev μ-loop : tie.MeasureT-loop
 μ-loop chunk₀ line₀ out₀ e₀ input₀ turns₀ chunk line out e input turns = turns
@@ -24,7 +24,7 @@ start-requires : tie.Need-start-requires Inv-loop μ-loop
 start-requires c κs = search needs
 
 loop-holds : tie.Need-loop-holds Inv-loop μ-loop
-loop-holds c = (refl, refl, refl, λ n b f d. rw (c .start .ensures) at d)
+loop-holds c = (refl, refl, refl, λ n b a f d. rw (c .start .ensures) at d)
 
 pull-line-requires : tie.Need-pull-line-requires Inv-loop μ-loop
 pull-line-requires c κs = search needs
@@ -42,19 +42,19 @@ returns : tie.Need-returns Inv-loop μ-loop
 returns c =
     let v = c .before .before .before .before .before .before .before .before .before .before .before .before .loop .inv in
     let l = c .before .before .before .before .before .before .before .pull-line .ensures in
-    v .3 _ _ _ (plays-none (not-true _ (c .if1 .taken)) (λ well. rw (v .1) at (l .line-is well)))
+    v .3 _ _ _ _ (plays-none (not-true _ (c .if1 .taken)) (λ well. rw (v .1) at (l .line-is well)) (l .room))
 
 shown-requires : tie.Need-shown-requires Inv-loop μ-loop
 shown-requires c κs = search needs
 
-slice-reshare-prefix-number-line : tie.Need-slice-reshare-prefix-number-line Inv-loop μ-loop
-slice-reshare-prefix-number-line c = search needs
+slice-reshare-prefix-add-line : tie.Need-slice-reshare-prefix-add-line Inv-loop μ-loop
+slice-reshare-prefix-add-line c = search needs
 
-slice-aggregate-number-line : tie.Need-slice-aggregate-number-line Inv-loop μ-loop
-slice-aggregate-number-line c = c .before .shown .ensures .there .1
+slice-aggregate-add-line : tie.Need-slice-aggregate-add-line Inv-loop μ-loop
+slice-aggregate-add-line c = c .before .shown .ensures .there .1
 
-number-line-requires : tie.Need-number-line-requires Inv-loop μ-loop
-number-line-requires c κs = search needs
+add-line-requires : tie.Need-add-line-requires Inv-loop μ-loop
+add-line-requires c κs = omega (arith, c .before .before .before .before .before .before .before .before .before .before .before .pull-line .ensures .room, c .before .before .before .before .before .before .before .before .before .before .before .before .before .before .before .before .loop .inv .2, c .before .before .before .before .before .before .before .before .before .before .before .before .before .before .before .before .before .before .before .before .before .pre)
 
 sub-turns : tie.Need-sub-turns Inv-loop μ-loop
 sub-turns c = omega (arith, c .before .before .before .before .before .before .before .before .before .before .before .before .before .before .before .before .before .before .loop-test .taken)
@@ -67,12 +67,12 @@ loop-again c =
     let v = c .before .before .before .before .before .before .before .before .before .before .before .before .before .before .before .before .before .before .before .loop .inv in
     let l = c .before .before .before .before .before .before .before .before .before .before .before .before .before .before .pull-line .ensures in
     let k = c .before .before .before .before .before .before .before .before .before .before .before .before .before .before .pull-line .kept in
-    let d = c .before .before .number-line .ensures in
+    let d = c .before .before .add-line .ensures in
     let there = not-false _ (c .before .before .before .before .before .before .before .if1 .left) in (
       k .1 .1 .0 ∙ v .0,
       k .1 .1 .1 .0 ∙ v .1,
-      c .before .before .number-line .kept .1 .1 .0 ∙ v .2,
-      λ n b f p. v .3 n b f (plays-line (rw (v .1, there) at (l .line-is (well-found (l .none-failed) there))) (d .number-is) (rw (shown-line (c .before .before .before .before .before .shown .ensures)) at (d .world-is)) p),
+      c .before .before .add-line .kept .1 .1 .0 ∙ v .2,
+      λ n b a f p. v .3 n b a f (plays-line (rw (v .1, there) at (l .line-is (well-found (l .none-failed) there))) (d .number-is) (rw (shown-line (c .before .before .before .before .before .shown .ensures)) at (d .box-is)) p),
     )
 
 same-length-4 : tie.Need-same-length-4 Inv-loop μ-loop
@@ -85,7 +85,7 @@ same-length-6 : tie.Need-same-length-6 Inv-loop μ-loop
 same-length-6 c = c .before .loop .inv .2
 
 returns-2 : tie.Need-returns-2 Inv-loop μ-loop
-returns-2 c = c .before .loop .inv .3 _ _ _ plays-failed
+returns-2 c = c .before .loop .inv .3 _ _ _ _ plays-failed
 
 pub run-spec : {M : Type 1} → statement M
 run-spec =
@@ -101,9 +101,9 @@ run-spec =
     same-length-3
     returns
     shown-requires
-    slice-reshare-prefix-number-line
-    slice-aggregate-number-line
-    number-line-requires
+    slice-reshare-prefix-add-line
+    slice-aggregate-add-line
+    add-line-requires
     sub-turns
     loop-less
     loop-again

@@ -1,6 +1,7 @@
 use Rattle.flight_bench.specs.Trace.{begun}
 use Rattle.air_bench.specs.Replies as air
 use Rattle.bench.specs.Replies as ground
+use lib.Dec.{lit≤}
 use mathlib.Core.Path.{refl}
 use borrow.Author.Needs.{needs}
 use Rattle.flight_bench.proofs.trace.begin.Statement.{statement}
@@ -26,7 +27,7 @@ same-length c = search needs
 
 returns : tie.Need-returns
 unfolding begun ground.begun air.begun
-returns c = record { number-is = refl; world-is = rw (c .empty .ensures, c .before .idle-link2 .ensures, c .before .before .idle-link .ensures); text-is = c .before .before .before .before .before .put-text .ensures }
+returns c = record { number-is = refl; world-is = rw (c .empty .ensures, c .before .idle-link2 .ensures, c .before .before .idle-link .ensures); text-is = c .before .before .before .before .before .put-text .ensures; short = lit≤ tt }
 
 pub begin-spec : {M : Type 1} → statement M
 begin-spec = tie.close (tie.spec slice-aggregate-put-text put-text-requires idle-link-requires idle-link-requires-2 empty-requires same-length returns)

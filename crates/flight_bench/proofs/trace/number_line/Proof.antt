@@ -1,4 +1,5 @@
 use Rattle.flight_bench.specs.Trace.{numbered}
+use Rattle.flight_bench.proofs.Stands.{numbered-short}
 use Rattle.text.proofs.Pages.{after}
 use borrow.Author.Needs.{needs}
 use Rattle.flight_bench.proofs.trace.number_line.Statement.{statement}
@@ -24,7 +25,7 @@ unfolding numbered
 returns c =
     let n = c .before .before .before .before .before .before .before .before .before .before .before .before .before .before .bump .ensures in
     let f = c .before .before .before .fly-line .ensures in
-    record { number-is = n; world-is = rw (← n) (f .world-is); text-is = rw (← n) (after (c .before .before .before .before .before .before .before .before .before .before .before .put-decimal .ensures) (after (c .before .before .before .before .before .before .before .put-byte .ensures) (f .text-is))) }
+    record { number-is = n; world-is = rw (← n) (f .world-is); text-is = rw (← n) (after (c .before .before .before .before .before .before .before .before .before .before .before .put-decimal .ensures) (after (c .before .before .before .before .before .before .before .put-byte .ensures) (f .text-is))); short = rw (← n) (numbered-short _ _ _ (f .short)) }
 
 pub number-line-spec : {M : Type 1} → statement M
 number-line-spec = tie.close (tie.spec bump-requires put-decimal-requires put-byte-requires fly-line-requires same-length returns)

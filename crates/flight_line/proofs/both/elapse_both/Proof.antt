@@ -1,7 +1,8 @@
+use Rattle.flight_line.proofs.Short.{longer}
 use Rattle.flight_line.proofs.Ways.{first-refuses, second-refuses, none-refuses}
 use Rattle.flight_line.specs.Boths.{bothOf, elapseReply}
 use Rattle.world.specs.World.{worldOf}
-use mathlib.Core.Path.{refl}
+use lib.Dec.{lit≤}
 use borrow.Author.Needs.{needs}
 use Rattle.flight_line.proofs.both.elapse_both.Statement.{statement}
 use Rattle.flight_line.proofs.both.elapse_both.Tie as tie
@@ -29,15 +30,15 @@ returns-2 : tie.Need-returns-2
 unfolding elapseReply
 returns-2 c = rw (← c .before .before .before .before .before .before .before .before .hear-both .ensures, second-refuses (worldOf (c .before .before .before .before .before .before .before .before .before .before .args .w)) (bothOf (c .before .before .before .before .before .before .before .before .hear-both .result)) (c .before .before .before .before .before .before .if1 .left) (c .before .before .before .before .if2 .taken)) (c .before .before .refuse2 .ensures)
 
-put-both-requires : tie.Need-put-both-requires
-put-both-requires c κs = search needs
+tell-both-requires : tie.Need-tell-both-requires
+tell-both-requires c κs = search needs
 
 same-length-3 : tie.Need-same-length-3
 same-length-3 c = search needs
 
 returns-3 : tie.Need-returns-3
 unfolding elapseReply
-returns-3 c = rw (← c .before .before .before .before .before .before .before .before .before .hear-both .ensures, none-refuses (worldOf (c .before .before .before .before .before .before .before .before .before .before .before .args .w)) (bothOf (c .before .before .before .before .before .before .before .before .before .hear-both .result)) (c .before .before .before .before .before .before .before .if1 .left) (c .before .before .before .before .before .if2 .left)) (record { world-is = refl; text-is = c .before .before .before .put-both .ensures })
+returns-3 c = rw (← c .before .before .before .before .before .before .before .before .hear-both .ensures, none-refuses (worldOf (c .before .before .before .before .before .before .before .before .before .before .args .w)) (bothOf (c .before .before .before .before .before .before .before .before .hear-both .result)) (c .before .before .before .before .before .before .if1 .left) (c .before .before .before .before .if2 .left)) (longer (lit≤ tt) (c .before .before .tell-both .ensures))
 
 pub elapse-both-spec : {M : Type 1} → statement M
-elapse-both-spec = tie.close (tie.spec hear-both-requires refuse-requires same-length returns refuse-requires-2 same-length-2 returns-2 put-both-requires same-length-3 returns-3)
+elapse-both-spec = tie.close (tie.spec hear-both-requires refuse-requires same-length returns refuse-requires-2 same-length-2 returns-2 tell-both-requires same-length-3 returns-3)

@@ -3,7 +3,10 @@ use Rattle.bench_line.specs.Lines.{parsedIn, groundScript}
 use Rattle.script.proofs.Rooms.{room-of}
 use Rattle.script.proofs.Heard.{with-room}
 use Rattle.text.proofs.Laws.{take-least}
-use lib.ListN.{length}
+use Prim.Native.Nat.{_≤_}
+use native.Mathlib.Nat.{le-trans, min-le-left}
+use lib.Dec.{lit≤}
+use lib.ListN.{length, take, length-take}
 use lib.Seq.{length-take-le}
 use denote.Ref.{now}
 use native.Mathlib.Omega.{arith}
@@ -76,8 +79,9 @@ returns-2 c =
     let octets = k .parse-line .last .1 .0 in
     let is = with-room groundScript (length (k .before .before .line-room .result)) line (omega (arith, long)) in
     let whole = k .parse-line .kept .1 .0 ∙ long in
+    let few : length (take (l .result) octets) ≤ 2048 = omega (arith, l .ensures .within, length-take (l .result) octets, min-le-left (l .result) (length octets)) in
     rw (← is, ← k .parse-line .ensures, t .given .1, ← take-least (t .given .0 .1 .0) 2048 octets whole, ← l .ensures .is, ← c .before .before .before .before .before .before .before .turn-ground .ensures)
-    (record { world-is = refl; text-is = c .before .before .put-answer .ensures .text-is })
+    (record { world-is = refl; text-is = c .before .before .put-answer .ensures .text-is; short = le-trans (c .before .before .put-answer .ensures .short few) (lit≤ tt) })
 
 pub ask-ground-spec : {M : Type 1} → statement M
 ask-ground-spec = tie.close (tie.spec line-room-requires slice-aggregate-parse-line parse-line-requires enum-known-told enum-told refuse-requires same-length returns least-requires array-share-prefix-octets slice-aggregate-turn-ground turn-ground-requires array-share-prefix-octets-2 slice-aggregate-put-answer put-answer-requires same-length-2 returns-2)

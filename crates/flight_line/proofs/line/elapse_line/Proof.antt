@@ -1,5 +1,8 @@
 use Rattle.flight_line.proofs.Ways.{elapse-unset, elapse-goes}
 use Rattle.flight_line.specs.Lines.{elapseLine, ended}
+use Rattle.flight_line.proofs.Short.{line-short}
+use mathlib.Core.List.{[]}
+use lib.Dec.{lit≤}
 use Rattle.text.proofs.Pages.{after}
 use Rattle.world.specs.World.{worldOf}
 use borrow.Author.Tests.{not-true, not-false}
@@ -50,7 +53,7 @@ same-length-3 c = search needs
 
 returns-3 : tie.Need-returns-3
 unfolding ended
-returns-3 c = let f = c .before .before .before .before .before .before .before .elapse-both .ensures in rw (← c .before .before .before .before .before .before .before .before .before .before .before .before .before .before .number-after .ensures, c .before .before .before .before .before .before .before .before .before .before .before .before .v .given .1, elapse-goes (worldOf (c .before .before .before .before .before .before .before .before .before .before .before .before .before .before .before .before .before .args .w)) _ (sym (c .before .before .before .before .before .before .before .before .before .before .both-ready .ensures) ∙ not-false (c .before .before .before .before .before .before .before .before .before .before .both-ready .result) (c .before .before .before .before .before .before .before .before .before .if1 .left))) (record { world-is = f .world-is; text-is = after (f .text-is) (c .before .before .put-byte .ensures) })
+returns-3 c = let f = c .before .before .before .before .before .before .before .elapse-both .ensures in rw (← c .before .before .before .before .before .before .before .before .before .before .before .before .before .before .number-after .ensures, c .before .before .before .before .before .before .before .before .before .before .before .before .v .given .1, elapse-goes (worldOf (c .before .before .before .before .before .before .before .before .before .before .before .before .before .before .before .before .before .args .w)) _ (sym (c .before .before .before .before .before .before .before .before .before .before .both-ready .ensures) ∙ not-false (c .before .before .before .before .before .before .before .before .before .before .both-ready .result) (c .before .before .before .before .before .before .before .before .before .if1 .left))) (record { world-is = f .world-is; text-is = after (f .text-is) (c .before .before .put-byte .ensures); short = line-short [] (lit≤ tt) f })
 
 pub elapse-line-spec : {M : Type 1} → statement M
 elapse-line-spec = tie.close (tie.spec number-after-requires enum-known-v enum-told refuse-line-requires same-length returns both-ready-requires refuse-line-requires-2 same-length-2 returns-2 elapse-both-requires put-byte-requires same-length-3 returns-3)

@@ -1,4 +1,7 @@
 use Rattle.flight_line.specs.Lines.{refusedLine, ended}
+use Rattle.flight_line.proofs.Short.{line-short}
+use mathlib.Core.List.{[]}
+use lib.Dec.{lit≤}
 use Rattle.text.proofs.Pages.{after}
 use borrow.Author.Needs.{needs}
 use Rattle.flight_line.proofs.line.refuse_line.Statement.{statement}
@@ -15,7 +18,7 @@ same-length c = search needs
 
 returns : tie.Need-returns
 unfolding refusedLine ended
-returns c = let f = c .before .before .before .before .before .before .before .refuse .ensures in record { world-is = f .world-is; text-is = after (f .text-is) (c .before .before .put-byte .ensures) }
+returns c = let f = c .before .before .before .before .before .before .before .refuse .ensures in record { world-is = f .world-is; text-is = after (f .text-is) (c .before .before .put-byte .ensures); short = line-short [] (lit≤ tt) f }
 
 pub refuse-line-spec : {M : Type 1} → statement M
 refuse-line-spec = tie.close (tie.spec refuse-requires put-byte-requires same-length returns)
