@@ -1,4 +1,4 @@
-"""any_script.py ground|air PROGRAM [ARGS..]: octets of every kind as a script; the program has to end with the trace of the side's model, octet for octet."""
+"""any_script.py ground|air|flight PROGRAM [ARGS..]: octets of every kind as a script; the program has to end with the trace of the model of that side, or of both, octet for octet."""
 import collections
 import random
 import subprocess
@@ -6,15 +6,19 @@ import sys
 
 import airmodel
 import broken_input
+import flightmodel
 import linkmodel
 
-# The side's model, a set, a call that opens the link, calls after which data goes on and on, such data, and what may stand behind a word.
-Side = collections.namedtuple("Side", "model set opening deep data tails")
+# The side's model, a set, a call that opens the link, calls after which data goes on and on, such data, what may stand behind a word, and how many lines end a trace.
+Side = collections.namedtuple("Side", "model set opening deep data tails ending")
 SIDES = {
     "ground": Side(linkmodel, b"set 60 60 60 60 60 60 60 60 60\n", b"req 3000", b"req 3000\nstart-cnf 2130\n", b"data 00\n",
-                   [" 3000", " 2130", " 08000000000000000001 2c00000000", " 64042"]),
+                   [" 3000", " 2130", " 08000000000000000001 2c00000000", " 64042"], 1),
     "air": Side(airmodel, b"set 60\n", b"start-ind 3000", b"start-ind 4080\nreq 3800\nreq 10000000000000004b0000000000\nreq 00\n", b"data 5840\n",
-                [" 3000", " 2130", " 4080", " 3800", " 10000000000000004b0000000000", " 5840", " 20", " 64042"]),
+                [" 3000", " 2130", " 4080", " 3800", " 10000000000000004b0000000000", " 5840", " 20", " 64042"], 1),
+    "flight": Side(flightmodel, b"ground set 60 60 60 60 60 60 60 60 60\nair set 60\n", b"ground req 3000", b"ground req 4080\ndeliver\nair req 3800\ndeliver\n",
+                   b"air req 180000000000000000096000000000\ndeliver 1\n",
+                   [" req 3000", " req 4080", " req 4080", " req 3800", " req 3800", " req 2130", " user-abort", " 1", " 2", " set 60", " down", " req 64042"], 4),
 }
 
 
@@ -39,7 +43,7 @@ def check(name, data):
 def counted(name, data, lines):
     """Too long for the model: one answer a line, and the count."""
     ran = run(data)
-    good = ran.returncode == 0 and ran.stdout.count(b"\n") == lines + 2 and ran.stdout.endswith(b"end %d\n" % lines)
+    good = ran.returncode == 0 and ran.stdout.count(b"\n") == lines + 1 + SIDE.ending and ran.stdout.endswith(b"end %d\n" % lines)
     print(f"{name}: {len(data)} octets, {lines} lines{'' if good else ': WRONG'}")
     return good
 
@@ -52,14 +56,18 @@ def full():
     return True
 
 
+def begun(data):
+    """A trace without what ends it."""
+    return b"".join(SIDE.model.trace(data).splitlines(keepends=True)[:-SIDE.ending])
+
+
 def broken():
-    """A read that fails is no end of the script: its last line is missing, what came of a line is not played, and standard error says so."""
+    """A read that fails is no end of the script: what ends a trace is missing, what came of a line is not played, and standard error says so."""
     data = SIDE.set + SIDE.opening + b"\nelapse 5"
     ran = broken_input.run(COMMAND, data)
-    whole = SIDE.model.trace(data[:data.rindex(b"\n") + 1])
-    good = ran.stdout == whole[:whole.rindex(b"end ")] and ran.stderr == broken_input.TOLD
+    good = ran.stdout == begun(data[:data.rindex(b"\n") + 1]) and ran.stderr == broken_input.TOLD
     first = broken_input.run_directory(COMMAND)
-    good = good and first.stdout == SIDE.model.trace(b"").removesuffix(b"end 0\n") and first.stderr == broken_input.TOLD
+    good = good and first.stdout == begun(b"") and first.stderr == broken_input.TOLD
     print(f"input that cannot be read: {'said' if good else 'WRONG'}")
     return good
 
@@ -81,7 +89,7 @@ def main():
         "data again and again": SIDE.set + SIDE.deep + SIDE.data * 3000,
     }
     good = [check(name, data) for name, data in cases.items()]
-    good.append(counted("a million lines", SIDE.set + b"elapse 0\n" * 999999, 1000000))
+    good.append(counted("a million lines", SIDE.set + b"elapse 0\n" * (1000000 - SIDE.set.count(b"\n")), 1000000))
     good.append(counted("one long line", b"a" * 20000000, 1))
     good.append(full())
     good.append(broken())

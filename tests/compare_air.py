@@ -21,7 +21,7 @@ import airmodel
 import traces
 from airmutants import MUTANTS
 from airscripts import CELLS_DUE, ROWS_DUE, STATES, Coverage, Maker, covered, ends_due, lines_due, pairs_due
-from compare_scripts import Side, main
+from compare_scripts import Side, main, tally
 
 ENTRIES = ('start-rsp', 'data-req', 'end-rsp', 'abort-req', 'ind', 'ind abort', 'ind peer-abort', 'start', 'stop')
 
@@ -52,7 +52,7 @@ def notes(coverage):
     yield f'states of all four modules together {len(coverage.joints)}/{math.prod(map(len, STATES.values()))}'
 
 
-SIDE = Side(airmodel.trace, MUTANTS, Maker, Coverage, ENTRIES, due, faults, notes, stored)
+SIDE = Side(airmodel.trace, MUTANTS, Maker, Coverage, ENTRIES, due, faults, notes, stored, tally)
 
 if __name__ == '__main__':
     sys.exit(main(__doc__, SIDE))

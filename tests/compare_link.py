@@ -16,7 +16,7 @@ import sys
 
 import linkmodel
 import traces
-from compare_scripts import Side, main
+from compare_scripts import Side, main, tally
 from linkmutants import MUTANTS
 from linkscripts import EVENTS, Coverage, Maker, ends_due, lines_due, pairs_due
 
@@ -40,7 +40,7 @@ def notes(coverage):
            f'with events {len(coverage.joint_pairs)}/{(3 * 5 * 5 * 3 - 1) * len(EVENTS) + 9}')
 
 
-SIDE = Side(linkmodel.trace, MUTANTS, Maker, Coverage, ENTRIES, due, faults, notes, functools.partial(traces.stored, 'ground'))
+SIDE = Side(linkmodel.trace, MUTANTS, Maker, Coverage, ENTRIES, due, faults, notes, functools.partial(traces.stored, 'ground'), tally)
 
 if __name__ == '__main__':
     sys.exit(main(__doc__, SIDE))

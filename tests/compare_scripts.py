@@ -36,6 +36,7 @@ class Side:
     faults: callable        # coverage -> what else is wrong
     notes: callable         # coverage -> lines that are printed
     stored: callable        # -> scripts that are stored; they tell changed models apart too
+    tally: callable         # traces -> how often each answer and entry was due, and how many entries the longest list has
 
 
 class Program:
@@ -87,9 +88,10 @@ def shown(octets):
 
 
 def show(difference):
-    """The script up to the line whose answer differs."""
+    """The script up to the line whose answer differs, all of it where it is the end that does."""
     print(f'script {difference.number + 1}:' + (f' {difference.fault}' if difference.fault else ''))
-    for line in lines(difference.script)[:difference.place]:
+    number = re.match(rb'\d+', difference.expected)
+    for line in lines(difference.script)[:int(number[0]) if number else None]:
         print(f'    {shown(line)}')
     print(f'  expected {shown(difference.expected)}\n  got      {shown(difference.got)}')
 
@@ -141,7 +143,7 @@ def compare(side, command, scripts, coverage, mutation):
     found = sorted(filter(None, found), key=lambda one: one.place)
     faults = []
     if not mutation:
-        met, longest = tally(expected)
+        met, longest = side.tally(expected)
         faults = faults_of(side, met, longest, coverage)
         print_met(side, met, longest, coverage)
     print(f'differences {len(found)}')

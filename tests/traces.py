@@ -1,6 +1,7 @@
-"""traces.py ground|air PROGRAM [ARGS..]: plays every stored script of a side of the link; the program and the side's model have to give its trace, octet for octet.
+"""traces.py ground|air|flight PROGRAM [ARGS..]: plays every stored script of a side of the link, or of both; the program and the model have to give its trace, octet for octet.
 
-The traces are worked out from 01, 02 and, for the air, 002 by hand: so neither the program nor the model is the measure of the other.
+The traces are worked out from 01, 02 and, for the air, 002 by hand: so neither the program nor the model is the measure of the other. Of the flights the
+traces are the model's: those in examples/flight were read against docs/FLIGHT.md, those in tests/flights are what a search found (crossings.py); test_flightmodel.py has the ones worked out by hand.
 """
 import itertools
 import pathlib
@@ -8,19 +9,22 @@ import subprocess
 import sys
 
 import airmodel
+import flightmodel
 import linkmodel
 
 ROOT = pathlib.Path(__file__).resolve().parent.parent
-MODELS = {"ground": linkmodel, "air": airmodel}
-PLACES = {"ground": [ROOT / "tests/traces", ROOT / "examples"], "air": [ROOT / "tests/traces/air", ROOT / "examples/air"]}
+MODELS = {"ground": linkmodel, "air": airmodel, "flight": flightmodel}
+PLACES = {"ground": [ROOT / "tests/traces", ROOT / "examples"], "air": [ROOT / "tests/traces/air", ROOT / "examples/air"],
+          "flight": [ROOT / "tests/flights", ROOT / "examples/flight"]}
 # rt plays these pairs too, but asks the program alone.
-PAIRS = {"ground": [(ROOT / "crates/adsc/stdin", ROOT / "crates/adsc/stdout")], "air": [(ROOT / "crates/adsair/stdin", ROOT / "crates/adsair/stdout")]}
+PAIRS = {side: [(ROOT / f"crates/{name}/stdin", ROOT / f"crates/{name}/stdout")] for side, name in (("ground", "adsc"), ("air", "adsair"), ("flight", "flight"))}
 
 
 def pairs_in(place):
     """Each name in a place, a trace that has lost its script too; a missing half is found when it is read."""
-    names = sorted({path.with_suffix("") for path in place.glob("*") if path.suffix in (".script", ".trace")})
-    return [(name.with_name(name.name + ".script"), name.with_name(name.name + ".trace")) for name in names]
+    script = ".flight" if place in PLACES["flight"] else ".script"
+    names = sorted({path.with_suffix("") for path in place.glob("*") if path.suffix in (script, ".trace")})
+    return [(name.with_name(name.name + script), name.with_name(name.name + ".trace")) for name in names]
 
 
 def stored(side):

@@ -49,7 +49,9 @@ def picture(wings, names):
         for c in crates:
             ranks.setdefault(level(c), []).append(c)
         chain = " > ".join("  ".join(ranks[k]) for k in sorted(ranks, reverse=True))
-        rows.append("%-24s%-60s%s" % (wing, chain, "on " + ", ".join(on) if on else ""))
+        below = "on " + ", ".join(on) if on else ""
+        # a long chain has what it stands on in a line of its own; rows are turned round in the end
+        rows += ["%-24s%-60s%s" % (wing, chain, below)] if len(chain) < 60 else ["%-84s%s" % ("", below), "%-24s%s" % (wing, chain)]
         done.append(wing)
         del waiting[wing]
     return "\n".join(row.rstrip() for row in reversed(rows))

@@ -24,7 +24,7 @@ pub struct Brief {
 }
 
 // A space and octets, or nothing.
-fn put_spaced(out: &mut [u8], at: usize, s: &[u8]) -> usize
+pub fn put_spaced(out: &mut [u8], at: usize, s: &[u8]) -> usize
     ensures { λ r. ⌜ Writes (page (now (out .entry)) at) (spaced (now (s .entry))) (page (now (out .exit)) r) ⌝ }
 {
     if s.len() == 0 {
@@ -75,7 +75,7 @@ fn put_entry(
 }
 
 // How many octets are left to go after an entry.
-fn rest_of(c: u8, k: usize) -> usize
+pub fn rest_of(c: u8, k: usize) -> usize
     ensures { λ r. ⌜ r ≡ restOf c k ⌝ }
 {
     match c {

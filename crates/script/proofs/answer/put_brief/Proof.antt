@@ -1,5 +1,7 @@
 use borrow.Author.Tests.{eq-eqb, ne-eqb}
 use mathlib.Core.Path.{_≡_}
+use native.Mathlib.Nat.{le-trans}
+use lib.Dec.{lit≤}
 use lib.ListN.{length, take}
 use Rattle.text.proofs.Pages.{after}
 use Rattle.script.specs.Entries.{Names, names, entriesOf, briefText, shortWords}
@@ -21,7 +23,7 @@ named c = names (wordsOf (now (c .args .words)) (now (c .args .begins))) (wordsO
 
 short-text : (c : tie.Start) → both (shortWords (named c .entries)) (shortWords (named c .timers)) ≡ true → length (now (c .args .sent)) ≤ 2048 → length (now (c .args .came)) ≤ 2048
     → length (briefText (named c) (c .args .b) (now (c .args .sent)) (now (c .args .came))) ≤ 33000
-short-text c = brief-length (named c) (c .args .b) (now (c .args .sent)) (now (c .args .came)) (eight c)
+short-text c h p q = le-trans (brief-length 2048 (lit≤ tt) (named c) (c .args .b) (now (c .args .sent)) (now (c .args .came)) (eight c) h p q) (lit≤ tt)
 
 put-refused-requires : tie.Need-put-refused-requires
 put-refused-requires c κs = search needs

@@ -1,0 +1,4 @@
+pub mod Endings
+pub mod Playing
+pub mod Stands
+pub mod Whole

@@ -1,0 +1,16 @@
+pub mod Keeping
+pub mod OfGround
+pub mod OfAir
+pub mod Lines
+pub mod Sendings
+pub mod Goings
+pub mod Cleans
+pub mod GroundReads
+pub mod GroundAsks
+pub mod GroundSends
+pub mod AirReads
+pub mod AirSends
+pub mod Letters
+pub mod Hears
+pub mod Turns
+pub mod Never

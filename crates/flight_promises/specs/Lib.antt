@@ -1,0 +1,4 @@
+pub mod Flights
+pub mod Sendings
+pub mod Fitting
+pub mod Shown
