@@ -6,6 +6,7 @@ It shares nothing with the program; percoder.py reads the PDU. NAMES holds the n
 spell them, and OTHERWISE those that are shown in other words.
 """
 
+import contextlib
 import re
 
 import percoder
@@ -251,7 +252,12 @@ def answer(line):
     return f'{family}: ' + ', '.join(told(*percoder.read(family, bytes.fromhex(octets))))
 
 
-def reword(text):
-    """Change one text of the tables, to test that a comparison finds it."""
+@contextlib.contextmanager
+def reworded(text):
+    """One text of the tables changed, to test that a comparison finds it, and then put back."""
     table, place = next((table, texts.index(text)) for table, texts in WORDS.items() if text in texts)
     WORDS[table][place] += ' or not'
+    try:
+        yield
+    finally:
+        WORDS[table][place] = text
