@@ -1,6 +1,6 @@
 """Compares a program that plays scripts of the air side of a link with airmodel.py, on fresh random scripts.
 
-    compare_air.py [--count N] [--lines M] [--seed S] [--mutate NAME] -- PROGRAM [ARGS..]
+    compare_air.py [--count N] [--lines M] [--seed S] [--mutate NAME|all] -- PROGRAM [ARGS..]
     compare_air.py [--count N] [--lines M] [--seed S] [--mutate NAME|all] --self
     compare_air.py --list
 

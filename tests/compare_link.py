@@ -1,6 +1,6 @@
 """Compares a program that plays scripts of a link with linkmodel.py, on fresh random scripts.
 
-    compare_link.py [--count N] [--lines M] [--seed S] [--mutate NAME] -- PROGRAM [ARGS..]
+    compare_link.py [--count N] [--lines M] [--seed S] [--mutate NAME|all] -- PROGRAM [ARGS..]
     compare_link.py [--count N] [--lines M] [--seed S] [--mutate NAME|all] --self
     compare_link.py --list
 

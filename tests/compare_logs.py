@@ -1,13 +1,14 @@
 """Compares the programs of the flight log with logmodel.py, on fresh random scripts and on logs of theirs that are damaged.
 
-    compare_logs.py [--count N] [--damages M] [--seed S] [--mutate NAME] -- PROGRAM [ARGS..]
+    compare_logs.py [--count N] [--damages M] [--seed S] [--mutate NAME|all] -- PROGRAM [ARGS..]
     compare_logs.py [--count N] [--damages M] [--seed S] --mutate all --self
     compare_logs.py --list
 
 PROGRAM is run with `adsclog` (script to log), `adsplay` (log to text) and `adsc` (script to trace) behind its words. The log of each script is compared, then
 its play, with the model's and with the trace without what was refused. Then each octet of a few blocks is changed (18 at that block is due), a log is cut
 at every length of its last block (20 is due there), and logs are damaged in M ways with the check made right again. --mutate changes one thing of the model,
-all of them each alone with `all`: then the comparison must fail. Exit 0: no differences, and every damage and every ground of refusal was met.
+all of them each alone with `all`: then the comparison must fail. --self compares them with the plain model, without a program. Exit 0: no differences, and
+every damage and every ground of refusal was met; with `all`, every changed model was told apart.
 """
 
 import argparse
@@ -161,14 +162,17 @@ def told_apart(functions, due):
     return any(model(case, functions) != text for case, text in due if case.program in changed)
 
 
-def mutate_all(cases):
-    """Each changed model against the plain one."""
-    due = [(case, model(case)) for case in cases]
+def mutate_all(command, cases):
+    """Each changed model against the programs or the plain one, up to the first case that tells them apart."""
+    plain = [model(case) for case in cases]
+    given = answers(command, cases) if command else plain
+    faults = ['the plain model is told apart'] if given != plain else []
+    due = list(zip(cases, given))
     missed = [name for name, functions in MUTANTS.items() if not told_apart(functions, due)]
     print(f'changed models {len(MUTANTS)}, told apart {len(MUTANTS) - len(missed)}')
-    for name in missed:
-        print(f'not told apart: {name}')
-    return 1 if missed else 0
+    for fault in [*faults, *(f'not told apart: {name}' for name in missed)]:
+        print(fault)
+    return 1 if faults or missed else 0
 
 
 def parse():
@@ -184,7 +188,7 @@ def parse():
     parser.add_argument('--list', action='store_true')
     parser.add_argument('--self', action='store_true', dest='itself')
     options = parser.parse_args(arguments)
-    if not options.list and (options.mutate == 'all') != options.itself or options.itself == bool(command) and not options.list:
+    if not options.list and (options.itself == bool(command) or options.itself and options.mutate != 'all'):
         parser.error('give a program, or --mutate all --self')
     return options, command
 
@@ -198,7 +202,7 @@ def main():
     scripts, cases = cases_of(random.Random(seed), options.count, options.damages, options.mutate)
     print(f'seed {seed}' + (f', changed: {options.mutate}' if options.mutate else ''))
     print(f'scripts {len(scripts)}, logs {len(cases) - len(scripts)}, blocks {sum(len(case.data) // BLOCK for case in cases if case.what == "log")}')
-    return mutate_all(cases) if options.mutate == 'all' else compare(command, scripts, cases, options.mutate)
+    return mutate_all(command, cases) if options.mutate == 'all' else compare(command, scripts, cases, options.mutate)
 
 
 if __name__ == '__main__':

@@ -162,14 +162,18 @@ def told_apart(model, traces):
     return place is not None
 
 
-def mutate_all(side, scripts):
-    """Each changed model against the plain one, up to the first script that tells them apart."""
-    traces = [(script, side.trace(script)) for script in [*scripts, *side.stored()]]
+def mutate_all(side, command, scripts):
+    """Each changed model against the program or the plain one, up to the first script that tells them apart."""
+    scripts = [*scripts, *side.stored()]
+    given = answers(side, command, scripts)
+    traces = [(script, answer.trace) for script, answer in zip(scripts, given)]
+    faults = [f'the program: {answer.fault}' for answer in given if answer.fault]
+    faults += ['the plain model is told apart'] if told_apart(side.trace, traces) else []
     missed = [name for name, model in side.mutants.items() if not told_apart(model, traces)]
     print(f'changed models {len(side.mutants)}, told apart {len(side.mutants) - len(missed)}')
-    for name in missed:
-        print(f'not told apart: {name}')
-    return 1 if missed else 0
+    for fault in [*faults, *(f'not told apart: {name}' for name in missed)]:
+        print(fault)
+    return 1 if faults or missed else 0
 
 
 def parse(usage, side):
@@ -187,8 +191,6 @@ def parse(usage, side):
     options = parser.parse_args(arguments)
     if not options.list and options.itself == bool(command):
         parser.error('give a program or --self')
-    if options.mutate == 'all' and command:
-        parser.error('--mutate all is without a program')
     return options, command
 
 
@@ -208,5 +210,5 @@ def main(usage, side):
     print(f'seed {seed}' + (f', changed: {options.mutate}' if options.mutate else ''))
     print(f'scripts {len(scripts)}, lines {sum(len(lines(script)) for script in scripts)}')
     if options.mutate == 'all':
-        return mutate_all(side, scripts)
+        return mutate_all(side, command, scripts)
     return compare(side, command, scripts, coverage, options.mutate)
