@@ -1,13 +1,14 @@
 """Compares a program that makes the calls of include/adsc.h from lines with hostmodel.py, on fresh random lines.
 
-    compare_host.py [--writing N] [--records N] [--blocks N] [--seed S] [--change NAME] -- PROGRAM [ARGS..]
+    compare_host.py [--writing N] [--records N] [--blocks N] [--seed S] [--change NAME|all] -- PROGRAM [ARGS..]
     compare_host.py [--writing N] [--records N] [--blocks N] [--seed S] --self
     compare_host.py --list
 
 PROGRAM is hostcall. Writing is from numbers: each at its edges, each two things out of order, every room; calls are on link records, good and
 one step off; blocks of the flight log are opened, appended to, finished and played,
-damaged ones too. --change compares with a model of which one rule is changed: then the comparison must fail. --self compares each such model with the
-plain one, without a program, and wants all told apart. --list prints their names. Exit 0: no differences, and everything that is due was met.
+damaged ones too. --change compares with a model of which one rule is changed, all of them each alone with `all`: then the comparison must fail. --self
+compares each such model with the plain one, without a program. --list prints their names. Exit 0: no differences, and everything that is due was met;
+with `all` and --self, every changed model was told apart.
 """
 
 import argparse
@@ -16,7 +17,6 @@ import contextlib
 import dataclasses
 import functools
 import random
-import subprocess
 import sys
 
 import hostlines
@@ -24,6 +24,7 @@ import hostmodel
 import logmodel
 import percoder
 from altering import replaced
+from compare_coder import run
 from hostmodel import INTERVALS, LINK_OCTETS, ORDER, RULES, STATES
 from percoder import PRESENCE
 
@@ -319,34 +320,28 @@ def changed(line, rules):
         return 'none'
 
 
-def told_apart(rng, lines):
-    """Each changed model against the plain one, up to the first line of its own that tells them apart."""
-    plain = [(line, hostmodel.answer(line)) for line in lines]
-    rng.shuffle(plain)
-    missed = []
-    for name, change in CHANGES.items():
-        own = (pair for pair in plain if part_of(pair[0]) == name.split(':')[0])
-        with change() as rules:
-            if all(changed(line, rules) == text for line, text in own):
-                missed.append(name)
+def told_apart(change, cases):
+    with change() as rules:
+        return any(changed(line, rules) != text for line, text in cases)
+
+
+def change_all(rng, program, lines):
+    """Each changed model against the program or the plain one, up to the first line of its own that tells them apart. Then all is put back, and none does."""
+    answers, faults = run(program, lines) if program else ([hostmodel.answer(line) for line in lines], [])
+    cases = list(zip(lines, answers))
+    rng.shuffle(cases)
+    own = collections.defaultdict(list)
+    for line, text in cases:
+        own[part_of(line)].append((line, text))
+    missed = [name for name, change in CHANGES.items() if not told_apart(change, own[name.split(':')[0]])]
+    faults += ['the plain model is told apart'] if told_apart(ruled(), cases) else []
     print(f'changed models {len(CHANGES)}, told apart {len(CHANGES) - len(missed)}')
-    for name in missed:
-        print(f'not told apart: {name}')
-    return 1 if missed else 0
+    for fault in [*faults, *(f'not told apart: {name}' for name in missed)]:
+        print(fault)
+    return 1 if faults or missed else 0
 
 
 # ---- the program
-
-def run(program, lines):
-    """Its answers, and what is wrong with it."""
-    try:
-        ended = subprocess.run(program, input=b''.join(line + b'\n' for line in lines), stdout=subprocess.PIPE)
-    except OSError as error:
-        return [], [f'cannot run the program: {error}']
-    answers = ended.stdout.decode('latin-1').split('\n')
-    faults = [] if answers.pop() == '' else ['the last answer has no line end']
-    faults += [f'the program ended with {ended.returncode}'] if ended.returncode else []
-    return answers, faults + ([f'{len(answers)} answers to {len(lines)} lines'] if len(answers) != len(lines) else [])
 
 
 def tally(lines, expected):
@@ -412,7 +407,7 @@ def parse():
     parser.add_argument('--records', type=int, default=10000)
     parser.add_argument('--blocks', type=int, default=2000)
     parser.add_argument('--seed', type=int, default=None)
-    parser.add_argument('--change', choices=CHANGES, metavar='NAME')
+    parser.add_argument('--change', choices=['all', *CHANGES], metavar='NAME')
     parser.add_argument('--self', action='store_true', dest='itself')
     parser.add_argument('--list', action='store_true')
     options = parser.parse_args(arguments)
@@ -435,8 +430,8 @@ def main():
     assert all((hostmodel.parts(line) is None) == (line in UNREADABLE) for line in lines)
     print(f'seed {seed}' + (f', changed: {options.change}' if options.change else ''))
     print(f'lines {len(lines)}: writing {len(writing)}, records {len(records)}, blocks {len(blocks)}')
-    if options.itself:
-        return told_apart(rng, lines)
+    if options.itself or options.change == 'all':
+        return change_all(rng, program, lines)
     return compare(program, lines, met + more + yet, options.change)
 
 
