@@ -119,17 +119,18 @@ class Pdu:
         self.n['kind'] = KINDS[family].index(kind)
         self.octets = rng.randbytes(rng.choice((0, 0, 5, 128, 140)))
         for place in SAYING:
-            if place in self.n and place in fields_of(family, kind, self.n):
-                self.n[place] = self.good(place)
+            form = self.fields().get(place) if place in self.n else None
+            if form:
+                self.n[place] = self.good(place, form)
         if full:
             self.n.update({'has-seconds': 1, 'elements': MASKS[kind][1], 'air-speed': 2} if kind in REPORTS else {})
             self.n.update({parts: MASKS[parts][1] for parts in PARTS} if kind in REPORTS else {})
             self.n.update({'detail': 2} if kind == 'negative-ack' else {})
             self.n.update({'what': 0x7c} if kind == 'periodic-contract' else {})
             self.n.update({'what': 0x7ff, **{place: rng.randrange(2) for place in EVENT_KINDS}} if kind == 'event-contract' else {})
-        for place in self.fields():
+        for place, form in self.fields().items():       # no number of these says what else there is
             if place not in (*SAYING, 'entries'):
-                self.n[place] = max(self.good(place), 1) if full and place == 'count' else self.good(place)
+                self.n[place] = max(self.good(place, form), 1) if full and place == 'count' else self.good(place, form)
         if 'entries' in self.fields():
             low, high = entry_range(kind, self.n)
             self.octets = bytes(rng.choice((low, high, rng.randint(low, high))) for _ in range(16 * (8 if kind == 'negative-ack' else 1)))
@@ -145,8 +146,7 @@ class Pdu:
     def mask(self, place):
         return MASKS[place if place in PARTS else self.kind]
 
-    def good(self, place):
-        form = fields_of(self.family, self.kind, self.n)[place]
+    def good(self, place, form):
         if form == 'mask':
             carried = self.mask(place)[1]
             some = self.rng.randrange(2048) & carried
