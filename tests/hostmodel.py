@@ -12,6 +12,7 @@ For block_play OCTETS is the block, and the number is the one it is to have.
 """
 
 import dataclasses
+import functools
 import re
 import types
 from collections import namedtuple
@@ -467,6 +468,7 @@ class Playing:
 
 # ---- lines
 
+@functools.lru_cache(maxsize=100000)
 def parts(line):
     """The word, link, octets, output and numbers of a line, or None."""
     match = LINE.fullmatch(line.decode('latin-1'))

@@ -11,6 +11,7 @@ It shares nothing with the box it is compared with but these pages; the calls an
 import collections
 import copy
 import dataclasses
+import functools
 import sys
 
 import linkmodel
@@ -120,6 +121,7 @@ def log(script, rules=RULES):
 
 # The reader and player
 
+@functools.lru_cache(maxsize=10000)
 def taken_apart(payload, order):
     """The records of a payload."""
     at, found = 0, []
@@ -129,7 +131,7 @@ def taken_apart(payload, order):
         whole = at + RECORD_HEAD + head[5] <= len(payload)
         found.append(Record(head[0], int.from_bytes(head[1:5], order), head[5], data, whole))
         at += RECORD_HEAD + head[5]
-    return found
+    return tuple(found)
 
 
 def copied(box):
