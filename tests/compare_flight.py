@@ -1,6 +1,6 @@
 """Compares a program that flies both ends of a link against each other with flightmodel.py, on fresh random flights.
 
-    compare_flight.py [--count N] [--lines M] [--seed S] [--mutate NAME] -- PROGRAM [ARGS..]
+    compare_flight.py [--count N] [--lines M] [--seed S] [--mutate NAME|all] -- PROGRAM [ARGS..]
     compare_flight.py [--count N] [--lines M] [--seed S] [--mutate NAME|all] --self
     compare_flight.py --list
 
