@@ -1,3 +1,4 @@
 pub mod Puts
+pub mod Loads
 pub mod Ways
 pub mod Promises

@@ -8,6 +8,7 @@ use lib.Seq.{sets}
 use Rattle.link.specs.Tests.{pick}
 use Rattle.link.specs.Names.{timers}
 use Rattle.ground_answer.specs.declared.answer.Answer.{Answer}
+use Rattle.ground_answer.specs.declared.answer.Said.{Said}
 use Rattle.ground_answer.specs.declared.fresh.Opened.{Opened}
 use Rattle.ground.specs.declared.call.Call.{Call}
 use Rattle.ground_answer.specs.Fresh.{opened}
@@ -37,6 +38,9 @@ told s o a =
 unfoldable pub hosted : Call → List ℕ → List ℕ → List ℕ → Done
 hosted call octets s o = pick (eqb (length s) RECORD-OCTETS) (told s o (answered (linkOf s) call octets)) (left BAD-RECORD s o)
 
+abbrev pub spelled : List ℕ → Said → Answer
+spelled s r = record { link = linkOf s; said = r }
+
 -- the record after a sequence of calls, each with room for its answer
 unfoldable pub kept : List ℕ → List Made → List ℕ
 kept s [] = s
@@ -46,6 +50,11 @@ pub record Hosts (d : Done) (r : ℕ) (link answer : List ℕ) : Type 0 where
   pub number-is : r ≡ d .number
   pub link-is : link ≡ d .link
   pub answer-is : answer ≡ d .answer
+
+-- the same with all that is said: where the call is accepted, this and the record after it are the call's answer by value
+pub record Serves (call : Call) (octets s o : List ℕ) (r : Said) (link answer : List ℕ) : Type 0 where
+  pub hosts : Hosts (hosted call octets s o) (r .refusal) link answer
+  pub answer-is : r .refusal ≡ 0 → spelled link r ≡ answered (linkOf s) call octets
 
 -- ---- a new link
 -- missing settings count as 0

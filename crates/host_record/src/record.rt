@@ -3,15 +3,16 @@ use crate::put::put_words;
 use ground_answer::record::Link;
 use ground_answer::record::make;
 use ground_tables::intervals::Intervals;
+use host_numbers::copy::copy_octets;
 use link::moves::TIMERS;
-use octets::octet;
 use octets::put_word;
 use octets::read_word;
 ghost use mathlib.Core.Path.{_≡_};
+ghost use Prim.Native.Nat.{_+_, _≤_};
 ghost use lib.ListN.{length};
 ghost use lib.Seq.{sets};
 ghost use Rattle.link.specs.Names.{timers};
-ghost use Rattle.octets.specs.Octets.{words};
+ghost use Rattle.octets.specs.Octets.{wordAt, words};
 ghost use Rattle.host_record.specs.RecordLayout.{five, intervalOctets, Spelled, RECORD-OCTETS, linkOf, restOctets, recordOctets, saved};
 
 pub const RECORD: usize = 85;
@@ -22,40 +23,55 @@ struct Numbers {
     left: [u32; TIMERS],
 }
 
-// Both in one loop: a function that is called once is compiled into its caller, which knows how many octets there are.
+// Of four octets alone the compiler knows that all are there.
+fn word_in(s: &[u8], at: usize) -> u32
+    requires { ⌜ at + 4 ≤ length (now s) ⌝ }
+    ensures { λ r. ⌜ r ≡ wordAt (now (s .entry)) at ⌝ }
+{
+    read_word(&s[at..at + 4], 0)
+}
+
 fn numbers_in(s: &[u8]) -> Numbers
+    requires { ⌜ length (now s) ≡ RECORD-OCTETS ⌝ }
     ensures { λ r. ⌜ Spelled (now (s .entry)) (r .setting) (r .left) ⌝ }
 {
     let mut setting = [0u32; TIMERS];
     let mut left = [0u32; TIMERS];
     let mut i: usize = 0;
     while i < TIMERS {
-        setting[i] = read_word(s, i * 4);
-        left[i] = read_word(s, 36 + i * 4);
+        setting[i] = word_in(s, i * 4);
+        left[i] = word_in(s, 36 + i * 4);
         i += 1;
     }
     Numbers { setting, left }
 }
 
-// The record that the octets spell, good or not.
-pub fn load(s: &[u8]) -> Link
+// The record that as many octets as it has spell, good or not.
+fn spell(s: &[u8]) -> Link
+    requires { ⌜ length (now s) ≡ RECORD-OCTETS ⌝ }
     ensures { λ r. ⌜ r ≡ linkOf (now (s .entry)) ⌝ }
 {
     let n = numbers_in(s);
     let setting = n.setting;
     let left = n.left;
-    let at = [
-        octet(s, 72),
-        octet(s, 73),
-        octet(s, 74),
-        octet(s, 75),
-        octet(s, 76),
-    ];
+    let at = [s[72], s[73], s[74], s[75], s[76]];
     let interval = Intervals {
-        asked: read_word(s, 77),
-        force: read_word(s, 81),
+        asked: word_in(s, 77),
+        force: word_in(s, 81),
     };
     make(setting, left, at, interval)
+}
+
+// The same of any octets: those that are not there are 0.
+pub fn load(s: &[u8]) -> Link
+    ensures { λ r. ⌜ r ≡ linkOf (now (s .entry)) ⌝ }
+{
+    if s.len() == RECORD {
+        return spell(s);
+    }
+    let mut whole = [0u8; RECORD];
+    copy_octets(s, &mut whole);
+    spell(&whole)
 }
 
 fn put_states(out: &mut [u8], at: [u8; 5])

@@ -7,6 +7,8 @@ use crate::record::save;
 use crate::record::save_rest;
 use ground::call::Call;
 use ground::call::answer;
+use ground_answer::answer::Said;
+use ground_answer::answer::refuse;
 use ground_answer::fresh::open;
 use host_numbers::copy::copy_numbers;
 use link::moves::TIMERS;
@@ -14,28 +16,38 @@ use refusals::BAD_RECORD;
 use refusals::BAD_SETTING;
 use refusals::NO_ROOM;
 ghost use mathlib.Core.Path.{_≡_};
-ghost use Rattle.host_record.specs.Hosting.{hosted, Hosts, settingsOf, made, Makes};
+ghost use Rattle.host_record.specs.Hosting.{hosted, Hosts, Serves, settingsOf, made, Makes};
 
-// The record is read and checked on each call, and written back only where the call is accepted and its answer has room.
-pub fn step(link: &mut [u8], call: Call, octets: &[u8], out: &mut [u8]) -> u8
-    ensures { λ r. ⌜ Hosts (hosted call (now (octets .entry)) (now (link .entry)) (now (out .entry))) r (now (link .exit)) (now (out .exit)) ⌝ }
+// The record is read and checked on each call, and written back only where the call is accepted and its answer has room. The flight log is played by this function
+// too: so `answer` is called from one place, and compiled into it.
+pub fn serve(link: &mut [u8], call: Call, octets: &[u8], out: &mut [u8]) -> Said
+    ensures { λ r. ⌜ Serves call (now (octets .entry)) (now (link .entry)) (now (out .entry)) r (now (link .exit)) (now (out .exit)) ⌝ }
 {
     if link.len() != RECORD {
-        return BAD_RECORD;
+        let bad = refuse(load(link), BAD_RECORD);
+        return bad.said;
     }
     let a = answer(load(link), call, octets);
     let said = a.said;
     let refusal = said.refusal;
     if refusal != 0 {
-        return refusal;
-    }
-    if out.len() < ANSWER {
-        return NO_ROOM;
+        return said;
     }
     let after = a.link;
+    if out.len() < ANSWER {
+        let full = refuse(after, NO_ROOM);
+        return full.said;
+    }
     save_rest(after, link);
     save_answer(said, out);
-    0
+    said
+}
+
+pub fn step(link: &mut [u8], call: Call, octets: &[u8], out: &mut [u8]) -> u8
+    ensures { λ r. ⌜ Hosts (hosted call (now (octets .entry)) (now (link .entry)) (now (out .entry))) r (now (link .exit)) (now (out .exit)) ⌝ }
+{
+    let said = serve(link, call, octets, out);
+    said.refusal
 }
 
 // The settings in an array; missing ones count as 0.

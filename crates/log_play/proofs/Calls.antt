@@ -1,11 +1,16 @@
 -- What the code's answers say of a record's call, as laws. Assumes nothing.
-use Prim.Native.Nat.{ℕ, _+_, min}
-use mathlib.Core.Path.{_≡_, sym, ap, _∙_}
+use Prim.Native.Nat.{ℕ, _+_, _≤_, min}
+use mathlib.Core.Path.{_≡_, refl, sym, ap, _∙_}
 use mathlib.Core.Bool.{Bool, true, false}
 use mathlib.Core.List.{List, []}
+use lib.Dec.{eqb}
 use lib.ListN.{length, getD, take, length-take}
+use lib.Seq.{sets}
+use borrow.Author.Tests.{eq-eqb, eqb-true, le-ltb}
 use Rattle.text.proofs.Laws.{take-min}
 use Rattle.link.specs.Tests.{pick}
+use Rattle.ground_answer.specs.declared.record.Link.{Link}
+use Rattle.ground_answer.specs.declared.answer.Said.{Said}
 use Rattle.ground.specs.Runs.{answered}
 use Rattle.ground.specs.declared.call.Call.{Call}
 use Rattle.script.specs.Fields.{heldIn}
@@ -15,6 +20,9 @@ use Rattle.bench_line.specs.Words.{groundWords}
 use Rattle.bench_line.specs.Lines.{groundScript, parsedIn}
 use Rattle.bench_line.specs.declared.line.LineCall.{LineCall}
 use Rattle.bench.specs.declared.reply.Setup.{Setup}
+use Rattle.host_record.specs.RecordLayout.{RECORD-OCTETS, linkOf, recordOctets}
+use Rattle.host_record.specs.AnswerLayout.{ANSWER-OCTETS, answerOctets}
+use Rattle.host_record.specs.Hosting.{Done, left, told, hosted, spelled, Serves}
 use Rattle.log.specs.Record.{Rec, rec}
 use Rattle.log_play.specs.Steps.{fieldIn, callIn, callStep, accepted, openStep, stepOf, besideOf, cameWith}
 use Rattle.log_play.specs.Plays.{stays, stepIn, steppedBy}
@@ -32,6 +40,33 @@ pub made-steps : (b : Setup) (r : Rec) (c : Call) (n m : ℕ) (o : List ℕ) →
     → stepIn b m (accepted (answered (b .link) c (take m o))) ≡ stepIn b (length (besideOf (callIn r))) (callStep (b .link) (callIn r))
 unfolding callStep besideOf
 made-steps b r c n m o e f = rw (e, f, take-min n o, length-take n o)
+
+-- ---- the call on the octets of a link is the call by value
+module _ (c : Call) (o s z : List ℕ) (r : Said) (t q : List ℕ) (h : length s ≡ RECORD-OCTETS) (g : ANSWER-OCTETS ≤ length z) where
+  same-number : hosted c o s z .number ≡ answered (linkOf s) c o .said .refusal
+  unfolding hosted told
+  same-number = rw (eq-eqb (length s) RECORD-OCTETS h, le-ltb (length z) ANSWER-OCTETS g) (go (eqb n 0) refl)
+    where
+      n : ℕ
+      n = answered (linkOf s) c o .said .refusal
+
+      full : Done
+      full = record { number = 0; link = recordOctets (answered (linkOf s) c o .link); answer = sets z 0 (answerOctets (answered (linkOf s) c o .said)) }
+
+      go : (b : Bool) → eqb n 0 ≡ b → pick b full (left n s z) .number ≡ n
+      go true e = sym (eqb-true n 0 e)
+      go false e = refl
+
+  pub served-accepts : (l : Link) → linkOf s ≡ l → Serves c o s z r t q → accepted (spelled t r) ≡ accepted (answered l c o)
+  unfolding accepted
+  served-accepts l e w = go (eqb (r .refusal) 0) refl
+    where
+      same : r .refusal ≡ answered l c o .said .refusal
+      same = w .hosts .number-is ∙ same-number ∙ ap (λ (x : Link). answered x c o .said .refusal) e
+
+      go : (b : Bool) → eqb (r .refusal) 0 ≡ b → accepted (spelled t r) ≡ accepted (answered l c o)
+      go true k = ap accepted (w .answer-is (eqb-true (r .refusal) 0 k) ∙ ap (λ (x : Link). answered x c o) e)
+      go false k = rw (k, ← same, k)
 
 -- ---- a box with its settings, and without
 pub step-ready : (b : Setup) (r : Rec) → b .ready ≡ true → stepIn b (length (besideOf (callIn r))) (callStep (b .link) (callIn r)) ≡ steppedBy b r

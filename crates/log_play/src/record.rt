@@ -3,12 +3,15 @@ use bench::reply::Setup;
 use bench_line::line::LineCall;
 use bench_line::line::make_call;
 use bench_line::line::shape_of;
-use ground::call::answer;
 use ground_answer::answer::Answer;
 use ground_answer::answer::Said;
 use ground_answer::answer::refuse;
 use ground_answer::fresh::open;
+use host_record::answer::ANSWER;
+use host_record::record::RECORD;
 use host_record::record::load;
+use host_record::record::save;
+use host_record::step::serve;
 use script::line::ALONE;
 use script::line::HEX;
 use script::line::Held;
@@ -89,7 +92,7 @@ pub fn hold_record(shape: u8, seconds: u32, octets: &[u8]) -> Held
     Held::Octets(0)
 }
 
-// A record for a box that has its settings.
+// A record for a box that has its settings: the call on the box's link as a host keeps it.
 fn play_call(b: Setup, kind: u8, seconds: u32, octets: &[u8]) -> Stepped
     ensures { λ r. ⌜ r ≡ stepIn b (length (besideOf (callIn (rec kind seconds (now (octets .entry)))))) (callStep (b .link) (callIn (rec kind seconds (now (octets .entry))))) ⌝ }
 {
@@ -100,10 +103,13 @@ fn play_call(b: Setup, kind: u8, seconds: u32, octets: &[u8]) -> Stepped
     let LineCall::Makes(call, n) = told else {
         return stay(b);
     };
-    let link = b.link;
+    let mut record = [0u8; RECORD];
+    let mut out = [0u8; ANSWER];
+    save(b.link, &mut record);
     let m = least(n, octets.len());
-    let a = answer(link, call, &octets[..m]);
-    accept(b, a, m)
+    let said = serve(&mut record, call, &octets[..m], &mut out);
+    let link = load(&record);
+    accept(b, Answer { link, said }, m)
 }
 
 // A record for a box that has none: it is to be its settings.

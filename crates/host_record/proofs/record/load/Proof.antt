@@ -1,50 +1,39 @@
+use mathlib.Core.Path.{ap, _∙_}
 use Rattle.host_record.specs.RecordLayout.{linkOf}
+use Rattle.host_record.proofs.Loads.{filled-link}
 use borrow.Author.Needs.{needs}
 use Rattle.host_record.proofs.record.load.Statement.{statement}
 use Rattle.host_record.proofs.record.load.Tie as tie
 
-numbers-in-requires : tie.Need-numbers-in-requires
-numbers-in-requires c κs = search needs
-
-octet-requires : tie.Need-octet-requires
-octet-requires c κs = search needs
-
-octet-requires-2 : tie.Need-octet-requires-2
-octet-requires-2 c κs = search needs
-
-octet-requires-3 : tie.Need-octet-requires-3
-octet-requires-3 c κs = search needs
-
-octet-requires-4 : tie.Need-octet-requires-4
-octet-requires-4 c κs = search needs
-
-octet-requires-5 : tie.Need-octet-requires-5
-octet-requires-5 c κs = search needs
-
-read-word-requires : tie.Need-read-word-requires
-read-word-requires c κs = search needs
-
-read-word-requires-2 : tie.Need-read-word-requires-2
-read-word-requires-2 c κs = search needs
-
-make-requires : tie.Need-make-requires
-make-requires c κs = search needs
+spell-requires : tie.Need-spell-requires
+spell-requires c κs = search needs
 
 returns : tie.Need-returns
-unfolding linkOf
-returns c = rw (c .make .ensures, c .before .before .before .before .before .before .before .before .before .before .numbers-in .ensures .settings, c .before .before .before .before .before .before .before .before .before .before .numbers-in .ensures .lefts, c .before .before .before .before .before .before .before .octet .ensures, c .before .before .before .before .before .before .octet2 .ensures) (rw (c .before .before .before .before .before .octet3 .ensures, c .before .before .before .before .octet4 .ensures, c .before .before .before .octet5 .ensures, c .before .before .read-word .ensures, c .before .read-word2 .ensures))
+returns c = search needs
+
+slice-aggregate-copy-octets : tie.Need-slice-aggregate-copy-octets
+slice-aggregate-copy-octets c = search needs
+
+copy-octets-requires : tie.Need-copy-octets-requires
+copy-octets-requires c κs = search needs
+
+slice-aggregate-spell : tie.Need-slice-aggregate-spell
+slice-aggregate-spell c = search needs
+
+spell-requires-2 : tie.Need-spell-requires-2
+spell-requires-2 c κs = search needs
+
+returns-2 : tie.Need-returns-2
+returns-2 c = c .spell2 .ensures ∙ ap linkOf (c .before .before .before .copy-octets .ensures) ∙ filled-link _
 
 pub load-spec : {M : Type 1} → statement M
 load-spec =
     tie.close
     (tie.spec
-    numbers-in-requires
-    octet-requires
-    octet-requires-2
-    octet-requires-3
-    octet-requires-4
-    octet-requires-5
-    read-word-requires
-    read-word-requires-2
-    make-requires
-    returns)
+    spell-requires
+    returns
+    slice-aggregate-copy-octets
+    copy-octets-requires
+    slice-aggregate-spell
+    spell-requires-2
+    returns-2)

@@ -20,11 +20,11 @@ abbrev μ-loop : tie.MeasureT-loop
 loop-holds : tie.Need-loop-holds Inv-loop μ-loop
 loop-holds c = (omega arith, (refl, refl))
 
-mul-read-word : tie.Need-mul-read-word Inv-loop μ-loop
-mul-read-word c = search needs
+mul-word-in : tie.Need-mul-word-in Inv-loop μ-loop
+mul-word-in c = search needs
 
-read-word-requires : tie.Need-read-word-requires Inv-loop μ-loop
-read-word-requires c κs = search needs
+word-in-requires : tie.Need-word-in-requires Inv-loop μ-loop
+word-in-requires c κs = search needs
 
 mul-setting : tie.Need-mul-setting Inv-loop μ-loop
 mul-setting c = search needs
@@ -32,14 +32,14 @@ mul-setting c = search needs
 array-write-setting : tie.Need-array-write-setting Inv-loop μ-loop
 array-write-setting c = search needs
 
-mul-read-word-2 : tie.Need-mul-read-word-2 Inv-loop μ-loop
-mul-read-word-2 c = search needs
+mul-word-in-2 : tie.Need-mul-word-in-2 Inv-loop μ-loop
+mul-word-in-2 c = search needs
 
-add-read-word : tie.Need-add-read-word Inv-loop μ-loop
-add-read-word c = search needs
+add-word-in : tie.Need-add-word-in Inv-loop μ-loop
+add-word-in c = search needs
 
-read-word-requires-2 : tie.Need-read-word-requires-2 Inv-loop μ-loop
-read-word-requires-2 c κs = search needs
+word-in-requires-2 : tie.Need-word-in-requires-2 Inv-loop μ-loop
+word-in-requires-2 c κs = search needs
 
 mul-left : tie.Need-mul-left Inv-loop μ-loop
 mul-left c = search needs
@@ -59,7 +59,7 @@ loop-again c =
     let s = k .before .before .args .s .now in
     let i = k .loop .i in
     let z : i * 4 ≡ 0 + i * 4 = omega arith in
-    (omega arith, (rw (k .loop .inv .1 .0, c .before .read-word .ensures, z) (words-step (replicate timers 0) s 0 i), rw (k .loop .inv .1 .1, c .read-word2 .ensures) (words-step (replicate timers 0) s 36 i)))
+    (omega arith, (rw (k .loop .inv .1 .0, c .before .word-in .ensures, z) (words-step (replicate timers 0) s 0 i), rw (k .loop .inv .1 .1, c .word-in2 .ensures) (words-step (replicate timers 0) s 36 i)))
 
 returns : tie.Need-returns Inv-loop μ-loop
 returns c =
@@ -74,13 +74,13 @@ numbers-in-spec =
     Inv-loop
     μ-loop
     loop-holds
-    mul-read-word
-    read-word-requires
+    mul-word-in
+    word-in-requires
     mul-setting
     array-write-setting
-    mul-read-word-2
-    add-read-word
-    read-word-requires-2
+    mul-word-in-2
+    add-word-in
+    word-in-requires-2
     mul-left
     array-write-left
     add-i
