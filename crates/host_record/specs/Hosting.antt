@@ -71,7 +71,7 @@ opensInto s o =
     (pick (eqb (length s) RECORD-OCTETS) (record { number = 0; link = recordOctets (o .link) }) (record { number = NO-ROOM; link = s }))
     (record { number = o .refusal; link = s })
 
--- other than nine settings: 3
+-- other than ten settings: 3
 unfoldable pub made : List ℕ → List ℕ → Opening
 made f s = pick (eqb (length f) timers) (opensInto s (opened (settingsOf f))) (record { number = BAD-SETTING; link = s })
 
