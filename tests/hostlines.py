@@ -331,7 +331,7 @@ PC2, PC, EM = TIMERS.index('PC2'), list(STATES).index('PC'), list(STATES).index(
 # PC2's seconds left, where `both` is interval in force and setting; seconds of an interval; how many octets are no record.
 GRACES = ('interval', 'interval + 1', 'both', 'both + 1', '93600 of 7200 + 86400', '93601 of 7200 + 86400')
 SECONDS = (0, 1, INTERVAL_MOST, INTERVAL_MOST + 1, TOP - 1)
-SIZES = (0, 76, 77, 78, 84, 86, 170)
+SIZES = (0, 77, 84, 85, 86, 92, 94, 186)
 BRINGING = ('start_confirm', 'data', 'air_abort')
 # Requests as numbers, with the seconds that are asked for.
 WISHES = {1: (6, 0, 0, 1), 59: (6, 0, 0, 59), 60: (6, 0, 1, 1), 300: (6, 0, 1, 5), 7200: (6, 0, 1, 120)}
@@ -361,7 +361,7 @@ class Records:
         if STATES['LI'][states[4]] in ('IDLE', 'END'):
             states[:4] = [0] * 4
         settings = [rng.choice((1, 2, 60, 86399, 86400, rng.randint(1, 86400))) for _ in TIMERS]
-        return self.fitted(Record(settings, [0] * 9, states, [0] * 2))
+        return self.fitted(Record(settings, [0] * len(TIMERS), states, [0] * 2))
 
     def fitted(self, record):
         """With the intervals that PC's state has, and seconds left where a timer runs by the watch table."""
@@ -390,7 +390,7 @@ class Records:
 
     def with_timer(self, place, runs):
         while True:
-            record = self.good(self.rng.choice(('START', 'ACTIVE')) if runs else None)
+            record = self.good(self.rng.choice(('END',) if TIMERS[place] == 'LI1' else ('START', 'ACTIVE')) if runs else None)
             if bool(record.left[place]) == runs:
                 return record
 
@@ -510,12 +510,12 @@ class Records:
 
     def open(self):
         rng = self.rng
-        numbers = [rng.choice((1, 60, 86400, rng.randint(1, 86400))) for _ in range(9)]
+        numbers = [rng.choice((1, 60, 86400, rng.randint(1, 86400))) for _ in TIMERS]
         draw = rng.random()
         if draw < 0.5:
-            numbers[rng.randrange(9)] = rng.choice((0, 1, 86400, 86401, TOP - 1))
+            numbers[rng.randrange(len(TIMERS))] = rng.choice((0, 1, 86400, 86401, TOP - 1))
         elif draw < 0.6:
-            numbers = (numbers * 2)[:rng.choice((0, 8, 10))]
+            numbers = (numbers * 2)[:rng.choice((0, 8, 9, 9, 11))]
         link = rng.randbytes(rng.choice((LINK_OCTETS,) * 4 + SIZES))
         self.lines.append(line_of('open', link, b'', rng.randbytes(rng.choice((0, ANSWER_OCTETS))), numbers))
         self.met['open'] += 1
@@ -557,7 +557,8 @@ def moved(line, answer):
 BLOCK_SIZES = (0, 1, 510, 511, 513, 520)
 BLOCK_NUMBERS = (0, 1, 255, 256, 65536, logmodel.LAST - 1, logmodel.LAST, logmodel.LAST + 1, 1 << 25, TOP - 1)
 KINDS_GIVEN = (*range(13), 128, 255)
-DATA_SIZES = (0, 1, 2, 35, 36, 37, 127, 128, 129, 130, 131, 255, 256, 300)
+DATA_SIZES = (0, 1, 2, 35, 36, 37, 39, 40, 41, 127, 128, 129, 130, 131, 255, 256, 300)
+SETTINGS_SIZES = {0: False, 32: False, 35: False, 36: True, 37: False, 38: False, 39: False, 40: True, 41: False, 44: False}     # whether they play
 # How many octets of room are left where the record is put, more than it needs.
 ROOMS = (-6, -1, 0, 1, 100)
 
@@ -591,7 +592,7 @@ class Blocks:
     def fields(self, kind):
         """Seconds and data that the call of a kind has."""
         word = logmodel.KINDS[kind] if kind < len(logmodel.KINDS) else None
-        sizes = (36,) if word == 'set' else DATA_SIZES if word in logmodel.WITH_DATA else (0,)
+        sizes = (40,) if word == 'set' else DATA_SIZES if word in logmodel.WITH_DATA else (0,)
         return self.rng.choice((0, 1, 86400, TOP - 1)) if word == 'elapse' else 0, self.rng.randbytes(self.rng.choice(sizes))
 
     def append(self, name, kind, seconds, data, room=None, spoil=None):
@@ -665,7 +666,7 @@ class Blocks:
         zeros, first = bytes(LINK_OCTETS), logmodel.block_of(0, logmaking.spelt(3, 1))
         self.add('play: 18 before 19', 'block_play', zeros, first[:511] + bytes([first[511] ^ 1]), [1])
         self.add('play: 19 before 20', 'block_play', zeros, first, [1])
-        calls = logmaking.spelt(0, 0, (360).to_bytes(4, 'big') * 9) + logmaking.spelt(1, 0, b'\x30\x00')
+        calls = logmaking.spelt(0, 0, (360).to_bytes(4, 'big') * self.rng.choice((9, 10))) + logmaking.spelt(1, 0, b'\x30\x00')
         for size in (129, 130):
             self.add(f'play: {size} octets', 'block_play', zeros, logmodel.block_of(0, calls + logmaking.spelt(4, 0, bytes(size))), [0])
 
@@ -685,9 +686,9 @@ class Blocks:
             block = logmodel.block_of(number, first[6:6 + int.from_bytes(first[4:6], 'big')])
             self.add(f'play {number}', 'block_play', bytes(LINK_OCTETS), block, [number])
             self.add(f'play {number} for another', 'block_play', bytes(LINK_OCTETS), block, [self.rng.choice([n for n in BLOCK_NUMBERS if n != number])])
-        for size in (0, 35, 36, 37, 40):
-            settings = ((86400).to_bytes(4, 'big') * 10)[:size]
-            self.add(f'play settings of {size}', 'block_play', bytes(LINK_OCTETS), logmodel.block_of(0, logmaking.spelt(0, 0, settings)), [0])
+        for size in SETTINGS_SIZES:
+            settings = logmodel.block_of(0, logmaking.spelt(0, 0, logmaking.settings_of(size)))
+            self.add(f'play settings of {size}', 'block_play', bytes(LINK_OCTETS), settings, [0])
         for name, record in records:
             block = self.rng.choice((logmodel.block_of(1, b''), first[:511], logmodel.block_of(1, logmaking.spelt(3, 0)), logmodel.block_of(1, logmaking.spelt(3, 1)), first))
             self.add(f'play on {"a good one" if not grounds(record) else "another"}', 'block_play', record, block, [1])
@@ -721,7 +722,8 @@ BLOCKS_DUE = ([f'{word} {number}' for word, numbers in (('block_open', (0, 5, 6)
               + [f'play: {name}: refused' for name in logmaking.WRONG if name != 'no records'] + [f'play: {name}: accepted' for name in logmaking.GOOD]
               + [f'play {number}: {"accepted" if number <= logmodel.LAST else "refused"}' for number in BLOCK_NUMBERS]
               + [f'play {number} for another: refused' for number in BLOCK_NUMBERS]
-              + [f'play settings of {size}: {"accepted" if size == 36 else "refused"}' for size in (0, 35, 36, 37, 40)]
+              + [f'play settings of {size}: {"accepted" if plays else "refused"}' for size, plays in SETTINGS_SIZES.items()]
+              + [f'kind 0, {size} octets: {"accepted" if size == 40 else "refused"}' for size in DATA_SIZES]
               + [f'{what}number {number}: {"accepted" if number == logmodel.LAST else "refused"}' for what in ('', 'finish: ')
                  for number in (logmodel.LAST, logmodel.LAST + 1, TOP - 1)]
               + ['finish: accepted', 'finish again: accepted', 'play: accepted', 'play on a good one: accepted', 'play on another: refused',
