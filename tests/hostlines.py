@@ -4,7 +4,7 @@
 
 What is met is a Counter of names; WRITING_DUE, RECORDS_DUE and BLOCKS_DUE say which names have to be in it.
 
-    moved(line, answer) -> the names of what a call made of the intervals, for the same Counter
+    moved(line, answer) -> the names of what a call made of the intervals and of LI1, for the same Counter
 """
 
 import collections
@@ -327,7 +327,8 @@ def writing(rng, count):
 SETTINGS = (0, 1, 86400, 86401)
 EDGES = ('0', '1', 'setting', 'setting + 1', '86400 of 86400', '86401 of 86400')
 TIMERS = [timer for timer, _, _ in linkmodel.RULES.watch]
-PC2, PC, EM = TIMERS.index('PC2'), list(STATES).index('PC'), list(STATES).index('EM')
+PC2, LI1 = TIMERS.index('PC2'), TIMERS.index('LI1')
+PC, EM = list(STATES).index('PC'), list(STATES).index('EM')
 # PC2's seconds left, where `both` is interval in force and setting; seconds of an interval; how many octets are no record.
 GRACES = ('interval', 'interval + 1', 'both', 'both + 1', '93600 of 7200 + 86400', '93601 of 7200 + 86400')
 SECONDS = (0, 1, INTERVAL_MOST, INTERVAL_MOST + 1, TOP - 1)
@@ -508,6 +509,20 @@ class Records:
             if word != 'end_confirm':
                 self.make(word, 'to IDLE', spelt(record), self.rng.choice(self.pool.bad['air']) if word in BRINGING else b'', numbers, (ANSWER_OCTETS,))
 
+    # What starts LI1 and what stops it: each row by which the last contract goes, a cancel-all, and each call in END.
+
+    def closing(self):
+        for (module, state, event), (_, after) in linkmodel.RULES.rows.items():
+            for li, word in (('START', 'start_confirm'), ('ACTIVE', 'data')):
+                if after == 'IDLE':
+                    record = self.good(li)
+                    record.states[:4] = [STATES[name].index(state) if name == module else 0 for name in linkmodel.MODULES]
+                    self.make(word, 'closing', spelt(self.fitted(record)), self.rng.choice(self.pool.of[event]), room=(ANSWER_OCTETS,))
+        for word, step in itertools.product(CALLS, (-1, 0, 1)):
+            record = self.good('END')
+            numbers = [min(86400, record.left[LI1] + step)] if word == 'elapse' else None
+            self.make(word, 'in END', spelt(record), numbers=numbers, room=(ANSWER_OCTETS,))
+
     def open(self):
         rng = self.rng
         numbers = [rng.choice((1, 60, 86400, rng.randint(1, 86400))) for _ in TIMERS]
@@ -526,6 +541,7 @@ class Records:
                 for word in CALLS:
                     self.make(word, name, record)
             self.contract()
+            self.closing()
             for _ in range(200):
                 self.make(self.rng.choice(list(CALLS)), 'good', spelt(self.good()))
                 self.make('request', 'good', spelt(self.good(self.rng.choice(('IDLE', 'ACTIVE', 'ACTIVE')))))
@@ -538,11 +554,16 @@ def records(rng, count):
     return Records(rng).all(count)
 
 
+def runs(record):
+    return 'runs' if record.left[LI1] else 'rests'
+
+
 def moved(line, answer):
-    """The names of what an accepted call made of the intervals."""
+    """The names of what an accepted call made of the intervals, and of LI1."""
     if not answer.startswith('0 ') or line.split(b' ')[0].decode() not in CALLS:
         return
     before, after = (taken_apart(bytes.fromhex(link)) for link in (line.decode().split(' ')[1], answer.split(' ')[2]))
+    yield f'LI1 {runs(before)}, then {runs(after)}: {line.split(b" ")[0].decode()}'
     was, now = (STATES['PC'][record.states[PC]] for record in (before, after))
     (asked, old), (wish, force) = before.intervals, after.intervals
     if was != now:
@@ -631,10 +652,10 @@ class Blocks:
 
     # Play
 
-    def logs(self):
-        """A log, and the record before each of its blocks."""
+    def logs(self, blocks=1):
+        """A log of so many blocks or more."""
         log = b''
-        while not log:
+        while len(log) < blocks * 512:
             log = logmodel.log(self.scripts.script())
         return log
 
@@ -671,10 +692,11 @@ class Blocks:
             self.add(f'play: {size} octets', 'block_play', zeros, logmodel.block_of(0, calls + logmaking.spelt(4, 0, bytes(size))), [0])
 
     def playing(self, records):
-        log = self.logs()
+        log = self.logs(2)
         self.walk('play', log)
         for name in logmaking.DAMAGES:
-            damaged = logmaking.damaged(self.rng, name, log)
+            tried = (logmaking.damaged(self.rng, name, log) for _ in range(20))         # some places have not what a damage needs
+            damaged = next(filter(None, tried), None)
             if damaged:
                 self.walk(f'play: {name}', damaged)
         self.walk('play: two grounds', logmaking.both(self.rng, log))
@@ -735,6 +757,9 @@ RECORDS_DUE = ([f'{timer} {how}: setting {setting}' for timer in TIMERS for how 
                + [f'PC {state}: {interval} {seconds}' for state in STATES['PC'] for interval in INTERVALS for seconds in SECONDS]
                + [f'{seconds} s asked for' for seconds in WISHES]
                + [f'{was} to {now}: {force} in force{where}' for was, now, force in MOVES for where in ('', ' in an emergency')]
+               + [f'LI1 rests, then runs: {word}' for word in ('request', 'start_confirm', 'data')]
+               + [f'LI1 runs, then rests: {word}' for word in ('user_abort', 'elapse', 'end_confirm', 'peer_abort', 'air_abort', 'down')]
+               + [f'LI1 runs, then runs: {word}' for word in ('elapse', 'data')]
                + [f'{module}: no state {over}' for module in STATES for over in (0, 1, 255)]
                + [f'{li}: {module} {state}' for li in ('IDLE', 'END') for module in linkmodel.MODULES for state in STATES[module][1:]]
                + [f'{li}: all IDLE' for li in STATES['LI']] + [f'{size} octets' for size in SIZES]
