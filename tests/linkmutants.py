@@ -207,13 +207,13 @@ class NeverStarted(Link):
 
 class GoesOn(Link):
     """LI1 stops, it is said, and runs on."""
+    expiring = False
+
     def stop(self, timer):
         left = self.left.get(timer)
         entries = super().stop(timer)
         self.left.update({timer: left} if timer == 'LI1' and left and not self.expiring else {})
         return entries
-
-    expiring = False
 
     def elapse(self, seconds):
         self.expiring = True
