@@ -38,6 +38,7 @@ told s o a =
 unfoldable pub hosted : Call → List ℕ → List ℕ → List ℕ → Done
 hosted call octets s o = pick (eqb (length s) RECORD-OCTETS) (told s o (answered (linkOf s) call octets)) (left BAD-RECORD s o)
 
+-- what is said, and the link that the octets spell after it
 abbrev pub spelled : List ℕ → Said → Answer
 spelled s r = record { link = linkOf s; said = r }
 
