@@ -30,9 +30,9 @@ extern "C" {
 
 /* ---- sizes */
 
-#define ADSC_LINK_OCTETS 85     /* of a link record, exactly */
+#define ADSC_LINK_OCTETS 93     /* of a link record, exactly */
 #define ADSC_ANSWER_OCTETS 31   /* of an answer; a longer buffer keeps what follows */
-#define ADSC_TIMERS 9           /* settings of adsc_open */
+#define ADSC_TIMERS 10          /* settings of adsc_open */
 #define ADSC_GROUND_NUMBERS 21  /* of a ground PDU */
 #define ADSC_AIR_NUMBERS 40     /* of an aircraft PDU, */
 #define ADSC_LIST_OCTETS 128    /* and of its list */
@@ -44,7 +44,7 @@ extern "C" {
 #define ADSC_BLOCK_OCTETS 512   /* of a block of the flight log, exactly, */
 #define ADSC_PAYLOAD_MOST 504   /* of its records together, */
 #define ADSC_KEPT_MOST 129      /* of the data of a record: one more than reads, so that longer data gets the same answer */
-#define ADSC_SETTINGS_OCTETS 36 /* of the data of a settings record, exactly */
+#define ADSC_SETTINGS_OCTETS 40 /* of the data of a settings record, exactly. One of 36, of a log from before ADSC_LI1, still plays */
 #define ADSC_BLOCKS_MOST 16777216 /* of a log: its block numbers are below */
 
 /* ---- refusals */
@@ -53,7 +53,7 @@ enum adsc_refusal {
     ADSC_OK = 0,
     ADSC_NOT_PERMITTED = 1,     /* request not permitted */
     ADSC_CANNOT_OCCUR = 2,      /* cannot occur: nothing like it is due from below in this state */
-    ADSC_BAD_SETTING = 3,       /* setting not 1..86,400, or not nine of them */
+    ADSC_BAD_SETTING = 3,       /* setting not 1..86,400, or not ten of them */
     ADSC_ELAPSE_OVER = 4,       /* elapse over 86,400 */
     ADSC_OUT_OF_RANGE = 5,      /* field to write out of range */
     ADSC_NO_ROOM = 6,           /* output shorter than the PDU, the numbers, the answer or the record; a block without room; judged last */
@@ -74,7 +74,7 @@ enum adsc_refusal {
                                  * elsewhere, refused in play; a block not of 512 octets */
     ADSC_BAD_RECORD = 29        /* link record: running timers not those of the watch table, seconds left not 1..setting (of PC2: 1..interval in force plus
                                  * setting), a setting not 1..86,400, an interval missing from its state of PC, foreign to it, or over 7,200, or LI in IDLE or
-                                 * END with a module not IDLE; numbers that are no states; not of 85 octets */
+                                 * END with a module not IDLE; numbers that are no states; not of 93 octets */
 };
 
 /* ---- timers, in watch order: the order of the settings, and the number in a timer's actions */
@@ -88,7 +88,8 @@ enum adsc_timer {
     ADSC_PC2 = 5,               /* one is in force: the next report is due. Runs for the interval in force and its setting, the grace. Rests in an emergency */
     ADSC_PC3 = 6,               /* its cancel is asked for */
     ADSC_EM1 = 7,               /* an emergency: the next report is due */
-    ADSC_EM2 = 8                /* a change of its interval is asked for */
+    ADSC_EM2 = 8,               /* a change of its interval is asked for */
+    ADSC_LI1 = 9                /* the end of the link is asked for: its confirmation is due */
 };
 
 /* ---- ground PDUs as ADSC_GROUND_NUMBERS numbers. What a kind does not have reads as 0 and is not looked at when written. Of a shorter list the numbers
@@ -269,15 +270,15 @@ enum adsc_abort_reason {
  * call checks it, so that a damaged one is refused (29) or is at least a link that the tables speak of. */
 
 enum adsc_link_place {
-    ADSC_LINK_SETTINGS = 0,     /* nine numbers in watch order */
-    ADSC_LINK_LEFT = 36,        /* the seconds each has left; 0 where it does not run */
-    ADSC_LINK_DC = 72,          /* the states, an octet each */
-    ADSC_LINK_EC = 73,
-    ADSC_LINK_PC = 74,
-    ADSC_LINK_EM = 75,
-    ADSC_LINK_LI = 76,
-    ADSC_LINK_ASKED = 77,       /* seconds between periodic reports, 1..ADSC_INTERVAL_MOST: as asked for, where PC is START-PENDING or PENDING, */
-    ADSC_LINK_FORCE = 81        /* and as in force, where it is PENDING, ACTIVE or CANCEL. 0 in the other states: none */
+    ADSC_LINK_SETTINGS = 0,     /* ten numbers in watch order */
+    ADSC_LINK_LEFT = 40,        /* the seconds each has left; 0 where it does not run */
+    ADSC_LINK_DC = 80,          /* the states, an octet each */
+    ADSC_LINK_EC = 81,
+    ADSC_LINK_PC = 82,
+    ADSC_LINK_EM = 83,
+    ADSC_LINK_LI = 84,
+    ADSC_LINK_ASKED = 85,       /* seconds between periodic reports, 1..ADSC_INTERVAL_MOST: as asked for, where PC is START-PENDING or PENDING, */
+    ADSC_LINK_FORCE = 89        /* and as in force, where it is PENDING, ACTIVE or CANCEL. 0 in the other states: none */
 };
 
 enum adsc_dc_state { ADSC_DC_IDLE = 0, ADSC_DC_PENDING = 1, ADSC_DC_ACTIVE = 2 };
@@ -375,7 +376,7 @@ static inline const uint8_t *adsc_answer_sent_octets(const uint8_t *answer)
 
 /* ---- a link */
 
-/* A new link record, everything IDLE, from nine settings in watch order. Refuses: 3, 6 (a record that is not of 85 octets). */
+/* A new link record, everything IDLE, from ten settings in watch order. Refuses: 3, 6 (a record that is not of 93 octets). */
 uint8_t adsc_open(const uint32_t *settings, size_t settings_length, uint8_t *link, size_t link_length);
 
 /* Calls on a record. Each refuses 29 first, and 6 last: an answer of less than 31 octets; what stands between is said below. */
@@ -453,12 +454,13 @@ uint8_t adsc_block_append(uint8_t *block, size_t block_length, uint8_t kind, uin
 /* Zeros behind the payload, and the check. Refuses: 20 as adsc_block_append. */
 uint8_t adsc_block_finish(uint8_t *block, size_t block_length);
 
-/* Judges a block, which is to have this number, and plays its records on the link: the record is then as the calls had left it. A link record of 85 zeros is
+/* Judges a block, which is to have this number, and plays its records on the link: the record is then as the calls had left it. A link record of 93 zeros is
  * one that has no settings yet, as before block 0. Refuses, in this order: 29 (a record that is neither good nor of zeros), 20 (a block that is not of 512
  * octets), 18, 19 (also where the number is not below ADSC_BLOCKS_MOST), 20: a payload length over ADSC_PAYLOAD_MOST, octets behind the payload that are not
  * zero, and of each record that it does not lie in the payload wholly, a kind over ADSC_CALL_DOWN, data over ADSC_KEPT_MOST, seconds or data that its call does
- * not use, settings that are not the first record of the log or are not of ADSC_SETTINGS_OCTETS octets, another first record, a request that does not read,
- * a call that the link refuses. A block is played wholly or not at all. One without records is good and leaves the record. */
+ * not use, settings that are not the first record of the log or are of neither length, another first record, a request that does not read, a call that the
+ * link refuses. Settings have ADSC_SETTINGS_OCTETS octets, or 36, and then ADSC_LI1 is at ADSC_SECONDS_MOST. A block is played wholly or not at all. One without
+ * records is good and leaves the record. */
 uint8_t adsc_block_play(uint8_t *link, size_t link_length, const uint8_t *block, size_t block_length, uint32_t number);
 
 /* What a block holds, for a host that looks at the calls themselves. The block is one that these functions have made or taken: the readers check nothing

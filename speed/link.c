@@ -2,9 +2,9 @@
 #include <string.h>
 #include "speed.h"
 
-enum { LINK = ADSC_LINK_OCTETS, ANSWER = ADSC_ANSWER_OCTETS, SETTINGS = 9 };
+enum { LINK = ADSC_LINK_OCTETS, ANSWER = ADSC_ANSWER_OCTETS, SETTINGS = ADSC_TIMERS };
 
-static const uint32_t settings[SETTINGS] = {60, 60, 60, 60, 60, 60, 60, 60, 60};
+static const uint32_t settings[SETTINGS] = {60, 60, 60, 60, 60, 60, 60, 60, 60, 60};
 static const uint32_t contract[GROUND] = {6, 0, 1, 1};          /* a report each minute */
 static const uint8_t accepted[] = {0x38, 0x80};                 /* positive ack, periodic */
 static const uint8_t plain[] = {0x30, 0, 0, 0, 0, 0, 0, 0, 1, 0x2c, 0, 0, 0, 0};

@@ -7,7 +7,7 @@ import sys
 import broken_input
 import logmodel
 
-SET = b"set 60 60 60 60 60 60 60 60 60\n"
+SET = b"set 60 60 60 60 60 60 60 60 60 60\n"
 
 
 def check(name, data):

@@ -12,11 +12,11 @@ import linkmodel
 # The side's model, a set, a call that opens the link, calls after which data goes on and on, such data, what may stand behind a word, and how many lines end a trace.
 Side = collections.namedtuple("Side", "model set opening deep data tails ending")
 SIDES = {
-    "ground": Side(linkmodel, b"set 60 60 60 60 60 60 60 60 60\n", b"req 3000", b"req 3000\nstart-cnf 2130\n", b"data 00\n",
+    "ground": Side(linkmodel, b"set 60 60 60 60 60 60 60 60 60 60\n", b"req 3000", b"req 3000\nstart-cnf 2130\n", b"data 00\n",
                    [" 3000", " 2130", " 08000000000000000001 2c00000000", " 64042"], 1),
     "air": Side(airmodel, b"set 60\n", b"start-ind 3000", b"start-ind 4080\nreq 3800\nreq 10000000000000004b0000000000\nreq 00\n", b"data 5840\n",
                 [" 3000", " 2130", " 4080", " 3800", " 10000000000000004b0000000000", " 5840", " 20", " 64042"], 1),
-    "flight": Side(flightmodel, b"ground set 60 60 60 60 60 60 60 60 60\nair set 60\n", b"ground req 3000", b"ground req 4080\ndeliver\nair req 3800\ndeliver\n",
+    "flight": Side(flightmodel, b"ground set 60 60 60 60 60 60 60 60 60 60\nair set 60\n", b"ground req 3000", b"ground req 4080\ndeliver\nair req 3800\ndeliver\n",
                    b"air req 180000000000000000096000000000\ndeliver 1\n",
                    [" req 3000", " req 4080", " req 4080", " req 3800", " req 3800", " req 2130", " user-abort", " 1", " 2", " set 60", " down", " req 64042"], 4),
 }

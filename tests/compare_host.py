@@ -240,8 +240,9 @@ def changes():
         yield f'records: {li} wants every module IDLE', ruled(ended=(*RULES.ended, li))
     for place, module in enumerate(STATES):
         yield f'records: one state more of {module}', ruled(states=tuple(most + (place == at) for at, most in enumerate(RULES.states)))
-    for size in (76, 77, 78, 84, 86):
+    for size in (84, 85, 86, 92, 94):
         yield f'records: {size} octets', ruled(sizes=(LINK_OCTETS, size))
+    yield 'records: nine settings are taken', ruled(counts=(9, *RULES.counts))
     yield 'records: asked and force exchanged', ruled(places=RULES.places[::-1])
     for place, (name, states) in enumerate(INTERVALS.items()):
         for what, change in interval_changes(place, name, states):
@@ -283,8 +284,13 @@ def block_changes():
         yield f'payloads of {room}', ruled(payload=room)
     for kept in (128, 130, 255):
         yield f'{kept} octets kept', ruled(kept_data=kept)
-    for size in (35, 37, 40):
-        yield f'settings of {size}', ruled(settings_octets=size)
+    for size in (35, 36, 37, 39, 41):
+        yield f'settings of {size} are kept', ruled(settings_octets=(*RULES.settings_octets, size))
+        if size != 36:
+            yield f'settings of {size} are played', logged(lengths=(*RULES.log.lengths, size))
+    yield 'settings of 36 are not played', logged(lengths=RULES.settings_octets)
+    for old in (1, 86399):
+        yield f'settings of 36 are played with {old}', logged(old=lambda numbers, old=old: old)
     for last in (RULES.last_block - 1, RULES.last_block + 1):
         yield f'blocks up to {last} are opened', ruled(last_block=last)
         yield f'blocks up to {last} are played', logged(last=last)

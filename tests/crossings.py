@@ -34,7 +34,7 @@ RULES = {'ground': linkmodel.RULES, 'air': airmodel.RULES}
 
 DUTY = False
 
-SETTINGS = {'ground': 'set 360 210 360 360 360 240 360 240 360', 'air': 'set 360'}
+SETTINGS = {'ground': 'set 360 210 360 360 360 240 360 240 360 360', 'air': 'set 360'}
 
 # A request of each kind that an end permits in some state; the search is told by the models in which.
 REQUESTS = {

@@ -5,8 +5,10 @@
 
 import functools
 
+import linkmodel
 from altering import trace_mutants
 from flightmodel import ENDS, MOST, USERS, World, heard, trace
+from linkmutants import Unwatched
 
 
 def of(**parts):
@@ -160,6 +162,13 @@ class OneClock(World):
         return 'ok' if end == 'air' and line.startswith('elapse') else super().ask(end, line)
 
 
+class EndStands(World):
+    """The ground's END has no clock."""
+    def __init__(self):
+        super().__init__()
+        self.box['ground'] = linkmodel.Box(link=Unwatched)
+
+
 class CutKeeps(World):
     def cut(self, rest):
         kept = list(self.under_way)
@@ -276,7 +285,7 @@ WORLDS = {
     'both.air-said-first': ends(('air', 'ground')),
     **{world.__name__: world for world in (
         NewestFirst, UpFirst, OnAndOn, One, AsManyAsThere, Zeros, LosesNewest, LosesQuietly, StaysIfRefused, OneDialogue, NumbersAlone, StatesAlone, NeverJoins,
-        JoinsRefused, OverStays, OverIsLost, AbortOvertakes, AirFirst, OneClock, CutKeeps, CutIdle, CutAnything, AnyWord, FullChanges, FullClock, LosesUnset, LineOfItsOwn,
+        JoinsRefused, OverStays, OverIsLost, AbortOvertakes, AirFirst, OneClock, EndStands, CutKeeps, CutIdle, CutAnything, AnyWord, FullChanges, FullClock, LosesUnset, LineOfItsOwn,
         NoRefusingEnd, OneState, NoCount)},
 }
 MUTANTS = {**{name: functools.partial(trace, made=world) for name, world in WORLDS.items()},

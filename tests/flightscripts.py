@@ -25,6 +25,7 @@ OUTCOMES_DUE = ([(*call, outcome) for call in CALLS for outcome in ('ok', 'lost'
 # Lines: what stands first, and what came of it, with as much under way as may be or less. `none` is a line that is none of these.
 LINES_DUE = [(word, answer) for word in ('ground', 'air') for answer in ('ok', 'refused 1', 'refused 3', 'refused 17')]
 LINES_DUE += [(word, answer) for word in ('elapse', 'cut') for answer in ('ok', 'refused 17')] + [('elapse', 'refused 4')]
+LINES_DUE += [('elapse', timer) for timer in ('LI1', 'EM3')]      # of both ends
 LINES_DUE += [(word, count, answer) for word in ('deliver', 'lose') for count, answer in (
     ('all', 'ok'), ('some', 'ok'), ('as many', 'ok'), ('none', 'refused 17'), ('one more', 'refused 17'), ('all', 'refused 17'), ('unreadable', 'refused 17'))]
 LINES_DUE += [('none', 'refused 17'), ('not set', 'refused 17')]
@@ -67,6 +68,7 @@ class Coverage:
     def note(self, before, line, answer, behind):
         word, _, rest = line.decode('latin-1').partition(' ')
         self.note_line(before, word, rest, came_of(answer.removeprefix(f'{word} ')))
+        self.lines.update((word, timer) for timer in re.findall('stop (LI1|EM3)', answer) if word == 'elapse')
         for text in behind:
             end, call, outcome = BEHIND.fullmatch(text).groups()
             self.outcomes[end, call, came_of(outcome)] += 1
@@ -146,7 +148,7 @@ class Maker:
         return self.odd() if draw < 0.85 else self.user('ground')
 
     def settings(self, end):
-        numbers = [self.rng.randint(1, 6) if self.short else self.rng.choice((60, 360, DAY)) for _ in range(9 if end == 'ground' else 1)]
+        numbers = [self.rng.randint(1, 6) if self.short else self.rng.choice((60, 360, DAY)) for _ in range(10 if end == 'ground' else 1)]
         if self.rng.random() < 0.1:
             numbers[self.rng.randrange(len(numbers))] = self.rng.choice((0, DAY + 1))
         if self.rng.random() < 0.05:
@@ -216,7 +218,7 @@ class Maker:
             end, f'{end} ', f' {end} user-abort', f'{end}  user-abort', f'{end} user-abort ', f'{end}\tuser-abort', f'{end} user-abort\r',
             *(f'{end} {call}' for call in (
                 'elapse 1', 'down', 'data', 'data 3880', 'peer-abort', 'start-ind 3000', 'start-cnf 2130', 'end-cnf', 'end-ind', 'start-rej',
-                'air-abort', 'ground-abort 74', 'req', 'req 0', 'req 640420', 'set 1', 'set 1 1 1 1 1 1 1 1 1', 'deliver', f'{end} user-abort')),
+                'air-abort', 'ground-abort 74', 'req', 'req 0', 'req 640420', 'set 1', 'set 1 1 1 1 1 1 1 1 1', 'set 1 1 1 1 1 1 1 1 1 1', 'deliver', f'{end} user-abort')),
             'req 3000', 'user-abort', 'set 60', 'down', 'sea user-abort',
             # at most 128 octets read, at most 4,096 are a line
             f'{end} req ' + '00' * self.rng.choice((128, 129)), f'{end} req ' + '00' * (2043 + (end == 'air')), f'{end} req ' + '00' * 2042,

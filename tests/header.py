@@ -52,7 +52,7 @@ CONSTANTS = {
     "ground_tables/src/intervals.rt": {"ADSC_INTERVAL_MOST": "INTERVAL_MOST"},
     "ground_tables/src/names.rt": {
         **{f"ADSC_LI_{state}": f"LI_{state}" for state in ("IDLE", "START", "ACTIVE", "END")},
-        **{f"ADSC_{timer}": timer for timer in ("DC1", "DC2", "EC1", "EC2", "PC1", "PC2", "PC3", "EM1", "EM2")},
+        **{f"ADSC_{timer}": timer for timer in ("DC1", "DC2", "EC1", "EC2", "PC1", "PC2", "PC3", "EM1", "EM2", "LI1")},
         **{f"ADSC_{module}_{state}": state for module in ("EC", "PC") for state in ("START_PENDING", "PENDING", "ACTIVE", "CANCEL")},
         "ADSC_DC_PENDING": "DC_PENDING", "ADSC_DC_ACTIVE": "DC_ACTIVE", "ADSC_EM_ACTIVE": "EM_ACTIVE", "ADSC_EM_MODIFY": "MODIFY"},
 }

@@ -113,7 +113,7 @@ static bool unchanged(const struct lent *b, size_t n)
 /* ---- what is lent */
 
 static uint8_t live[ADSC_LINK_OCTETS];      /* a link in use; once it has left IDLE it seldom goes back, so that all states are met */
-static bool random_record;                  /* whether this call has 85 random octets for a record */
+static bool random_record;                  /* whether this call has random octets for a record */
 
 static void lend_link(bool opens)
 {
@@ -273,12 +273,25 @@ static void lend_octets(bool air)
         memcpy(octets.at, some, n);
 }
 
+enum { OLD_OCTETS = 36 };                   /* of settings, in a log of before LI1 */
+
+/* A block of an old log: adsc_block_append makes none any more. */
+static void old_settings(uint8_t *b)
+{
+    uint8_t *record = b + adsc_block_first();
+    b[5] = 6 + OLD_OCTETS;
+    record[5] = OLD_OCTETS;
+    memcpy(record + 6, live, OLD_OCTETS);
+}
+
 /* A block of the log with some records, most of them such that any link takes them; the first is the settings where there is no link yet. */
 static void fill(uint8_t *b, bool first)
 {
     uint8_t some[ADSC_KEPT_MOST + 8];
     adsc_block_open(b, ADSC_BLOCK_OCTETS, number < ADSC_BLOCKS_MOST ? number : 0);
-    if (first)
+    if (first && one_in(4))
+        old_settings(b);
+    else if (first)
         adsc_block_append(b, ADSC_BLOCK_OCTETS, ADSC_CALL_SETTINGS, 0, live, ADSC_SETTINGS_OCTETS);
     for (uint32_t n = chance(one_in(4) ? 200 : 5); n > 0; n--) {
         scatter(some, sizeof some);
@@ -422,7 +435,7 @@ static uint8_t perform(enum which f)
 
 /* ---- what must hold */
 
-static uint64_t seed, made, scattered, defaults, met[FUNCTIONS][REFUSALS];
+static uint64_t seed, made, scattered, defaults, old_logs, met[FUNCTIONS][REFUSALS];
 static enum which under_way;
 
 static void must(bool holds, enum which f, const char *what, ...)
@@ -530,7 +543,7 @@ static uint32_t most_left(size_t timer)
     return adsc_link_setting(link_.at, timer) + (timer == ADSC_PC2 ? adsc_link_force(link_.at) : 0);
 }
 
-/* The intervals that PC's state has, and seconds left that fit. */
+/* The intervals that PC's state has, and seconds left that fit; LI1 runs in END, and nowhere else. */
 static void check_seconds(enum which f)
 {
     uint8_t pc = link_.at[ADSC_LINK_PC];
@@ -539,6 +552,21 @@ static void check_seconds(enum which f)
     must((force > 0) == (pc >= ADSC_PC_PENDING) && force <= ADSC_INTERVAL_MOST, f, "state %d, %" PRIu32 " s in force", pc, force);
     for (size_t t = 0; t < ADSC_TIMERS; t++)
         must(adsc_link_left(link_.at, t) <= most_left(t), f, "timer %d: %" PRIu32 " s left", (int)t, adsc_link_left(link_.at, t));
+    must((adsc_link_left(link_.at, ADSC_LI1) > 0) == (link_.at[ADSC_LINK_LI] == ADSC_LI_END), f, "LI in %d, LI1 has %" PRIu32 " s left", link_.at[ADSC_LINK_LI],
+         adsc_link_left(link_.at, ADSC_LI1));
+}
+
+/* Late data changes nothing; settings without LI1 give it a day. */
+static void check_closing(enum which f)
+{
+    const uint8_t *was = link_.before + (link_.at - link_.window), *first = block.at + adsc_block_first();
+    static const uint8_t none[ADSC_LINK_OCTETS];
+    if (f == DATA && was[ADSC_LINK_LI] == ADSC_LI_END)
+        must(memcmp(was, link_.at, ADSC_LINK_OCTETS) == 0, f, "late data changes the record");
+    if (f == BLOCK_PLAY && memcmp(was, none, sizeof none) == 0 && first[5] == OLD_OCTETS) {
+        must(adsc_link_setting(link_.at, ADSC_LI1) == ADSC_SECONDS_MOST, f, "LI1 of an old log is %" PRIu32, adsc_link_setting(link_.at, ADSC_LI1));
+        old_logs++;
+    }
 }
 
 /* What was asked for, and what a start loads. */
@@ -647,6 +675,8 @@ static uint8_t spoilt(enum which f, uint8_t result)
         b->at[ADSC_LINK_LI] = 4;
     if (strcmp(spoil, "interval") == 0 && result == ADSC_OK && b == &link_ && b->at[ADSC_LINK_PC] != ADSC_PC_IDLE)
         b->at[ADSC_LINK_FORCE + 3] ^= 1;
+    if (strcmp(spoil, "closing") == 0 && result == ADSC_OK && b == &link_ && b->at[ADSC_LINK_LI] == ADSC_LI_END)
+        b->at[ADSC_LINK_LEFT + 4 * ADSC_LI1 + 3] ^= 1;
     if (strcmp(spoil, "block") == 0 && result == ADSC_OK && b == &block)
         b->at[ADSC_BLOCK_OCTETS - 1] ^= 1;
     if (strcmp(spoil, "result") == 0 && result == ADSC_NO_ROOM)
@@ -689,6 +719,7 @@ static void one_call(void)
     }
     if (f <= DOWN || (f == BLOCK_PLAY && !zeros())) {
         check_seconds(f);
+        check_closing(f);
         check_record(f);
     }
     if (f == BLOCK_OPEN)
@@ -720,15 +751,16 @@ static void tell(void)
             must(met[f][*r] > 0, f, "never refused with %d", *r);
     }
     must(defaults > 0, READ_GROUND, "never read the default");
-    printf("seed %" PRIu64 ", calls %" PRIu64 ", accepted %" PRIu64 ", faults 0; on records of 85 random octets %" PRIu64 ", each 29; the default sent %" PRIu64 "\n",
-           seed, made, accepted, scattered, defaults);
+    must(old_logs > 0, BLOCK_PLAY, "never played settings of before LI1");
+    printf("seed %" PRIu64 ", calls %" PRIu64 ", accepted %" PRIu64 ", faults 0; on records of %d random octets %" PRIu64 ", each 29; the default sent %" PRIu64
+           ", settings without LI1 %" PRIu64 "\n", seed, made, accepted, ADSC_LINK_OCTETS, scattered, defaults, old_logs);
 }
 
 int main(int n, char **words)
 {
     struct lent *all[] = {&settings, &link_, &answer, &octets, &numbers, &list, &out, &written, &block};
     if (n < 3) {
-        fprintf(stderr, "host_any SEED CALLS [octet|guard|record|interval|block|result|room|past]\n");
+        fprintf(stderr, "host_any SEED CALLS [octet|guard|record|interval|closing|block|result|room|past]\n");
         return 2;
     }
     seed = strtoull(words[1], NULL, 10);

@@ -4,7 +4,7 @@
 
 What is met is a Counter of names; WRITING_DUE, RECORDS_DUE and BLOCKS_DUE say which names have to be in it.
 
-    moved(line, answer) -> the names of what a call made of the intervals, for the same Counter
+    moved(line, answer) -> the names of what a call made of the intervals and of LI1, for the same Counter
 """
 
 import collections
@@ -327,11 +327,12 @@ def writing(rng, count):
 SETTINGS = (0, 1, 86400, 86401)
 EDGES = ('0', '1', 'setting', 'setting + 1', '86400 of 86400', '86401 of 86400')
 TIMERS = [timer for timer, _, _ in linkmodel.RULES.watch]
-PC2, PC, EM = TIMERS.index('PC2'), list(STATES).index('PC'), list(STATES).index('EM')
+PC2, LI1 = TIMERS.index('PC2'), TIMERS.index('LI1')
+PC, EM = list(STATES).index('PC'), list(STATES).index('EM')
 # PC2's seconds left, where `both` is interval in force and setting; seconds of an interval; how many octets are no record.
 GRACES = ('interval', 'interval + 1', 'both', 'both + 1', '93600 of 7200 + 86400', '93601 of 7200 + 86400')
 SECONDS = (0, 1, INTERVAL_MOST, INTERVAL_MOST + 1, TOP - 1)
-SIZES = (0, 76, 77, 78, 84, 86, 170)
+SIZES = (0, 77, 84, 85, 86, 92, 94, 186)
 BRINGING = ('start_confirm', 'data', 'air_abort')
 # Requests as numbers, with the seconds that are asked for.
 WISHES = {1: (6, 0, 0, 1), 59: (6, 0, 0, 59), 60: (6, 0, 1, 1), 300: (6, 0, 1, 5), 7200: (6, 0, 1, 120)}
@@ -361,7 +362,7 @@ class Records:
         if STATES['LI'][states[4]] in ('IDLE', 'END'):
             states[:4] = [0] * 4
         settings = [rng.choice((1, 2, 60, 86399, 86400, rng.randint(1, 86400))) for _ in TIMERS]
-        return self.fitted(Record(settings, [0] * 9, states, [0] * 2))
+        return self.fitted(Record(settings, [0] * len(TIMERS), states, [0] * 2))
 
     def fitted(self, record):
         """With the intervals that PC's state has, and seconds left where a timer runs by the watch table."""
@@ -390,7 +391,7 @@ class Records:
 
     def with_timer(self, place, runs):
         while True:
-            record = self.good(self.rng.choice(('START', 'ACTIVE')) if runs else None)
+            record = self.good(self.rng.choice(('END',) if TIMERS[place] == 'LI1' else ('START', 'ACTIVE')) if runs else None)
             if bool(record.left[place]) == runs:
                 return record
 
@@ -508,14 +509,28 @@ class Records:
             if word != 'end_confirm':
                 self.make(word, 'to IDLE', spelt(record), self.rng.choice(self.pool.bad['air']) if word in BRINGING else b'', numbers, (ANSWER_OCTETS,))
 
+    # What starts LI1 and what stops it: each row by which the last contract goes, a cancel-all, and each call in END.
+
+    def closing(self):
+        for (module, state, event), (_, after) in linkmodel.RULES.rows.items():
+            for li, word in (('START', 'start_confirm'), ('ACTIVE', 'data')):
+                if after == 'IDLE':
+                    record = self.good(li)
+                    record.states[:4] = [STATES[name].index(state) if name == module else 0 for name in linkmodel.MODULES]
+                    self.make(word, 'closing', spelt(self.fitted(record)), self.rng.choice(self.pool.of[event]), room=(ANSWER_OCTETS,))
+        for word, step in itertools.product(CALLS, (-1, 0, 1)):
+            record = self.good('END')
+            numbers = [min(86400, record.left[LI1] + step)] if word == 'elapse' else None
+            self.make(word, 'in END', spelt(record), numbers=numbers, room=(ANSWER_OCTETS,))
+
     def open(self):
         rng = self.rng
-        numbers = [rng.choice((1, 60, 86400, rng.randint(1, 86400))) for _ in range(9)]
+        numbers = [rng.choice((1, 60, 86400, rng.randint(1, 86400))) for _ in TIMERS]
         draw = rng.random()
         if draw < 0.5:
-            numbers[rng.randrange(9)] = rng.choice((0, 1, 86400, 86401, TOP - 1))
+            numbers[rng.randrange(len(TIMERS))] = rng.choice((0, 1, 86400, 86401, TOP - 1))
         elif draw < 0.6:
-            numbers = (numbers * 2)[:rng.choice((0, 8, 10))]
+            numbers = (numbers * 2)[:rng.choice((0, 8, 9, 9, 11))]
         link = rng.randbytes(rng.choice((LINK_OCTETS,) * 4 + SIZES))
         self.lines.append(line_of('open', link, b'', rng.randbytes(rng.choice((0, ANSWER_OCTETS))), numbers))
         self.met['open'] += 1
@@ -526,6 +541,7 @@ class Records:
                 for word in CALLS:
                     self.make(word, name, record)
             self.contract()
+            self.closing()
             for _ in range(200):
                 self.make(self.rng.choice(list(CALLS)), 'good', spelt(self.good()))
                 self.make('request', 'good', spelt(self.good(self.rng.choice(('IDLE', 'ACTIVE', 'ACTIVE')))))
@@ -538,11 +554,16 @@ def records(rng, count):
     return Records(rng).all(count)
 
 
+def runs(record):
+    return 'runs' if record.left[LI1] else 'rests'
+
+
 def moved(line, answer):
-    """The names of what an accepted call made of the intervals."""
+    """The names of what an accepted call made of the intervals, and of LI1."""
     if not answer.startswith('0 ') or line.split(b' ')[0].decode() not in CALLS:
         return
     before, after = (taken_apart(bytes.fromhex(link)) for link in (line.decode().split(' ')[1], answer.split(' ')[2]))
+    yield f'LI1 {runs(before)}, then {runs(after)}: {line.split(b" ")[0].decode()}'
     was, now = (STATES['PC'][record.states[PC]] for record in (before, after))
     (asked, old), (wish, force) = before.intervals, after.intervals
     if was != now:
@@ -557,7 +578,8 @@ def moved(line, answer):
 BLOCK_SIZES = (0, 1, 510, 511, 513, 520)
 BLOCK_NUMBERS = (0, 1, 255, 256, 65536, logmodel.LAST - 1, logmodel.LAST, logmodel.LAST + 1, 1 << 25, TOP - 1)
 KINDS_GIVEN = (*range(13), 128, 255)
-DATA_SIZES = (0, 1, 2, 35, 36, 37, 127, 128, 129, 130, 131, 255, 256, 300)
+DATA_SIZES = (0, 1, 2, 35, 36, 37, 39, 40, 41, 127, 128, 129, 130, 131, 255, 256, 300)
+SETTINGS_SIZES = {0: False, 32: False, 35: False, 36: True, 37: False, 38: False, 39: False, 40: True, 41: False, 44: False}     # whether they play
 # How many octets of room are left where the record is put, more than it needs.
 ROOMS = (-6, -1, 0, 1, 100)
 
@@ -591,7 +613,7 @@ class Blocks:
     def fields(self, kind):
         """Seconds and data that the call of a kind has."""
         word = logmodel.KINDS[kind] if kind < len(logmodel.KINDS) else None
-        sizes = (36,) if word == 'set' else DATA_SIZES if word in logmodel.WITH_DATA else (0,)
+        sizes = (40,) if word == 'set' else DATA_SIZES if word in logmodel.WITH_DATA else (0,)
         return self.rng.choice((0, 1, 86400, TOP - 1)) if word == 'elapse' else 0, self.rng.randbytes(self.rng.choice(sizes))
 
     def append(self, name, kind, seconds, data, room=None, spoil=None):
@@ -630,10 +652,10 @@ class Blocks:
 
     # Play
 
-    def logs(self):
-        """A log, and the record before each of its blocks."""
+    def logs(self, blocks=1):
+        """A log of so many blocks or more."""
         log = b''
-        while not log:
+        while len(log) < blocks * 512:
             log = logmodel.log(self.scripts.script())
         return log
 
@@ -665,15 +687,16 @@ class Blocks:
         zeros, first = bytes(LINK_OCTETS), logmodel.block_of(0, logmaking.spelt(3, 1))
         self.add('play: 18 before 19', 'block_play', zeros, first[:511] + bytes([first[511] ^ 1]), [1])
         self.add('play: 19 before 20', 'block_play', zeros, first, [1])
-        calls = logmaking.spelt(0, 0, (360).to_bytes(4, 'big') * 9) + logmaking.spelt(1, 0, b'\x30\x00')
+        calls = logmaking.spelt(0, 0, (360).to_bytes(4, 'big') * self.rng.choice((9, 10))) + logmaking.spelt(1, 0, b'\x30\x00')
         for size in (129, 130):
             self.add(f'play: {size} octets', 'block_play', zeros, logmodel.block_of(0, calls + logmaking.spelt(4, 0, bytes(size))), [0])
 
     def playing(self, records):
-        log = self.logs()
+        log = self.logs(2)
         self.walk('play', log)
         for name in logmaking.DAMAGES:
-            damaged = logmaking.damaged(self.rng, name, log)
+            tried = (logmaking.damaged(self.rng, name, log) for _ in range(20))         # some places have not what a damage needs
+            damaged = next(filter(None, tried), None)
             if damaged:
                 self.walk(f'play: {name}', damaged)
         self.walk('play: two grounds', logmaking.both(self.rng, log))
@@ -685,9 +708,9 @@ class Blocks:
             block = logmodel.block_of(number, first[6:6 + int.from_bytes(first[4:6], 'big')])
             self.add(f'play {number}', 'block_play', bytes(LINK_OCTETS), block, [number])
             self.add(f'play {number} for another', 'block_play', bytes(LINK_OCTETS), block, [self.rng.choice([n for n in BLOCK_NUMBERS if n != number])])
-        for size in (0, 35, 36, 37, 40):
-            settings = ((86400).to_bytes(4, 'big') * 10)[:size]
-            self.add(f'play settings of {size}', 'block_play', bytes(LINK_OCTETS), logmodel.block_of(0, logmaking.spelt(0, 0, settings)), [0])
+        for size in SETTINGS_SIZES:
+            settings = logmodel.block_of(0, logmaking.spelt(0, 0, logmaking.settings_of(size)))
+            self.add(f'play settings of {size}', 'block_play', bytes(LINK_OCTETS), settings, [0])
         for name, record in records:
             block = self.rng.choice((logmodel.block_of(1, b''), first[:511], logmodel.block_of(1, logmaking.spelt(3, 0)), logmodel.block_of(1, logmaking.spelt(3, 1)), first))
             self.add(f'play on {"a good one" if not grounds(record) else "another"}', 'block_play', record, block, [1])
@@ -721,7 +744,8 @@ BLOCKS_DUE = ([f'{word} {number}' for word, numbers in (('block_open', (0, 5, 6)
               + [f'play: {name}: refused' for name in logmaking.WRONG if name != 'no records'] + [f'play: {name}: accepted' for name in logmaking.GOOD]
               + [f'play {number}: {"accepted" if number <= logmodel.LAST else "refused"}' for number in BLOCK_NUMBERS]
               + [f'play {number} for another: refused' for number in BLOCK_NUMBERS]
-              + [f'play settings of {size}: {"accepted" if size == 36 else "refused"}' for size in (0, 35, 36, 37, 40)]
+              + [f'play settings of {size}: {"accepted" if plays else "refused"}' for size, plays in SETTINGS_SIZES.items()]
+              + [f'kind 0, {size} octets: {"accepted" if size == 40 else "refused"}' for size in DATA_SIZES]
               + [f'{what}number {number}: {"accepted" if number == logmodel.LAST else "refused"}' for what in ('', 'finish: ')
                  for number in (logmodel.LAST, logmodel.LAST + 1, TOP - 1)]
               + ['finish: accepted', 'finish again: accepted', 'play: accepted', 'play on a good one: accepted', 'play on another: refused',
@@ -733,6 +757,9 @@ RECORDS_DUE = ([f'{timer} {how}: setting {setting}' for timer in TIMERS for how 
                + [f'PC {state}: {interval} {seconds}' for state in STATES['PC'] for interval in INTERVALS for seconds in SECONDS]
                + [f'{seconds} s asked for' for seconds in WISHES]
                + [f'{was} to {now}: {force} in force{where}' for was, now, force in MOVES for where in ('', ' in an emergency')]
+               + [f'LI1 rests, then runs: {word}' for word in ('request', 'start_confirm', 'data')]
+               + [f'LI1 runs, then rests: {word}' for word in ('user_abort', 'elapse', 'end_confirm', 'peer_abort', 'air_abort', 'down')]
+               + [f'LI1 runs, then runs: {word}' for word in ('elapse', 'data')]
                + [f'{module}: no state {over}' for module in STATES for over in (0, 1, 255)]
                + [f'{li}: {module} {state}' for li in ('IDLE', 'END') for module in linkmodel.MODULES for state in STATES[module][1:]]
                + [f'{li}: all IDLE' for li in STATES['LI']] + [f'{size} octets' for size in SIZES]

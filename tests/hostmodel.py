@@ -33,7 +33,7 @@ AIR = ('kind', 'what', 'detail', 'count', 'elements', 'south', 'latitude', 'lati
        'units', 'avoidance', 'address', 'ground-parts', 'track', 'ground-speed', 'ground-rate', 'air-parts', 'heading', 'air-speed', 'mach', 'ias',
        'air-rate', 'weather-parts', 'wind-speed', 'wind-direction', 'temperature', 'turbulence')
 SIGNED = ('level', 'ground-speed', 'ground-rate', 'air-rate', 'temperature', 'rate-change', 'ceiling', 'floor')      # "in two's complement"
-LINK_OCTETS, ANSWER_OCTETS, SENT_MOST, TIMERS = 85, 31, 17, 9
+LINK_OCTETS, ANSWER_OCTETS, SENT_MOST, TIMERS = 93, 31, 17, 10
 
 # The states of a record, by their numbers (enum adsc_dc_state and the four below it).
 STATES = {
@@ -73,7 +73,7 @@ PLAY_ORDER = ('bad_record', 'cut_short', 'judged')
 class Rules:
     """What a test of a test alters. 29: "link record: running timers not those of the watch table, seconds left not 1..setting, a setting
     not 1..86,400, or LI in IDLE or END with a module not IDLE" (01); "no more than interval plus grace" for PC2, "an interval missing from its
-    state, foreign to it, or over 7,200" (02, L2); "numbers that are no states; not of 85 octets" (adsc.h)."""
+    state, foreign to it, or over 7,200" (02, L2); LI1 "runs exactly in END" (L8); "numbers that are no states; not of 93 octets" (adsc.h)."""
     settings: tuple = (1, 86400)
     left: tuple = (1, 0)                # from so many to so many more than the setting
     grace: callable = lambda setting, asked, force: force + setting     # what stands for the setting of PC2
@@ -81,7 +81,7 @@ class Rules:
     wanted: tuple = tuple(INTERVALS.values())       # at these states an interval of 0 is missing,
     allowed: tuple = tuple(INTERVALS.values())      # at others than these one above 0 is foreign
     longest: tuple = (INTERVAL_MOST,) * len(INTERVALS)
-    places: tuple = ((77, 'big'), (81, 'big'))
+    places: tuple = ((85, 'big'), (89, 'big'))
     kept: callable = lambda before, after: after    # the intervals that a call writes back
     ended: tuple = ('IDLE', 'END')      # where every module is IDLE
     states: tuple = tuple(len(names) for names in STATES.values())
@@ -94,10 +94,11 @@ class Rules:
     payload: int = logmodel.ROOM
     kept_data: int = logmodel.KEPT
     last_block: int = logmodel.LAST
-    settings_octets: int = logmodel.SETTINGS
+    counts: tuple = (TIMERS,)           # numbers that a new record is made from; where there are fewer, LI1 is that of an old log
+    settings_octets: tuple = (logmodel.SETTINGS,)               # of a record to append
     behind: callable = lambda octets: octets                    # what stands behind the record after an append,
     finished: callable = lambda octets: bytes(len(octets))      # and behind the payload after a finish
-    none: callable = lambda link: link == bytes(LINK_OCTETS)    # "A link record of 85 zeros is one that has no settings yet"
+    none: callable = lambda link: link == bytes(LINK_OCTETS)    # "A link record of 93 zeros is one that has no settings yet"
     log: logmodel.Rules = logmodel.RULES
     room: int = ANSWER_OCTETS
     writer: type = percoder.Writer
@@ -235,7 +236,7 @@ def numbers_of(octets):
 
 def taken_apart(octets, rules=RULES):
     intervals = [int.from_bytes(octets[place:place + 4], order) for place, order in rules.places]
-    return Record(numbers_of(octets[:36]), numbers_of(octets[36:72]), list(octets[72:77]), intervals)
+    return Record(numbers_of(octets[:40]), numbers_of(octets[40:80]), list(octets[80:85]), intervals)
 
 
 def spelt(record, rules=RULES):
@@ -363,13 +364,14 @@ class Calling:
         return After(0, BEFORE, spelt(after, self.rules), answer_octets(entries) + self.out[ANSWER_OCTETS:])
 
 
-def opened(link, out, numbers):
-    """Refuses 3, and then 6, "a record that is not of 85 octets"."""
+def opened(link, out, numbers, rules):
+    """Refuses 3, and then 6, "a record that is not of 93 octets"."""
     limits = linkmodel.LIMITS
-    if len(numbers) != TIMERS or not all(limits['least setting'] <= number <= limits['setting'] for number in numbers):
+    if len(numbers) not in rules.counts or not all(limits['least setting'] <= number <= limits['setting'] for number in numbers):
         return After(3, BEFORE, link, out)
     if len(link) != LINK_OCTETS:
         return After(6, BEFORE, link, out)
+    numbers = (numbers + [logmodel.OLD_LI1])[:TIMERS]
     return After(0, BEFORE, spelt(Record(numbers, [0] * TIMERS, [0] * len(STATES), [0] * len(INTERVALS))), out)
 
 
@@ -409,7 +411,7 @@ class Appending:
         ADSC_SETTINGS_OCTETS octets)" """
         word = named(self.rules.log.kinds, self.kind)
         unused = self.seconds and word != 'elapse' or self.data and word not in self.rules.log.with_data
-        wrong = word == 'set' and len(self.data) != self.rules.settings_octets
+        wrong = word == 'set' and len(self.data) not in self.rules.settings_octets
         return 5 if word == 'nothing' or unused or wrong else 0
 
     def no_room(self):
@@ -485,7 +487,7 @@ def call(word, link, octets, out, numbers, rules=RULES):
     if word == 'write_air':
         return write('air', air_value(numbers, octets, rules), link, out, rules)
     if word == 'open':
-        return opened(link, out, numbers)
+        return opened(link, out, numbers, rules)
     if word == 'block_open':
         return block_opened(link, out, numbers, rules)
     if word == 'block_append':

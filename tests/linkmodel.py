@@ -1,8 +1,8 @@
-"""A model of the ground side of one link, written from page 01 alone, and its intervals from L2 and L5 of 02.
+"""A model of the ground side of one link, written from page 01 alone, its intervals from L2 and L5 of 02 and the watch over END from L8.
 
 It shares nothing with the box it is compared with but these pages; it stands on sidemodel.py, and
 reads PDUs with percoder.py. First the tables of 01, as data in the page's order with its words above
-each group, and those of L2; below them the model that plays them.
+each group, and those of L2 and L8; below them the model that plays them.
 
     linkmodel.py < script > trace
     trace(script octets) -> trace octets
@@ -109,15 +109,16 @@ LI_ROWS = [
     ('ACTIVE', 'change', 'request as data-req', 'ACTIVE'),
     # "START: accepted start confirm passes its data, then ACTIVE; rejected, abort 5 without an abort request.
     # ACTIVE: data passes. After confirm or data without an abort, if all four modules are IDLE, one end request is
-    # added at the end, END."
-    ('START', 'start-cnf', 'pass, end-req if all IDLE', 'ACTIVE'),
+    # added at the end, END." "a timer LI1 .. starts with every end request" (02, L8): send, then start, as in every row.
+    ('START', 'start-cnf', 'pass, end-req if all IDLE, start LI1 if all IDLE', 'ACTIVE'),
     ('START', 'start-rej', 'stops, ind abort cannot establish contact, modules IDLE', 'IDLE'),
-    ('ACTIVE', 'data', 'pass, end-req if all IDLE', 'ACTIVE'),
+    ('ACTIVE', 'data', 'pass, end-req if all IDLE, start LI1 if all IDLE', 'ACTIVE'),
     # "Cancel-all in ACTIVE: stop running timers in watch order, all modules IDLE, end request with the PDU, END."
-    ('ACTIVE', 'cancel-all', 'stops, modules IDLE, end-req PDU', 'END'),
-    # "END: data is set aside unread as "late"; end confirm, IDLE. Link primitives not listed: refusal 2."
+    ('ACTIVE', 'cancel-all', 'stops, modules IDLE, end-req PDU, start LI1', 'END'),
+    # "END: data is set aside unread as "late"; end confirm, IDLE. Link primitives not listed: refusal 2." "Late data
+    # doesn't restart it." LI1 "stops on end confirm or any abort" (L8): an abort stops all that run.
     ('END', 'data', 'late', 'END'),
-    ('END', 'end-cnf', '', 'IDLE'),
+    ('END', 'end-cnf', 'stop LI1', 'IDLE'),
     # Abort rule. "A user abort (START, ACTIVE, END; in IDLE refusal 1): stops, abort request with no PDU, no
     # indication."
     ('START ACTIVE END', 'user-abort', 'stops, abort-req, modules IDLE', 'IDLE'),
@@ -138,7 +139,8 @@ REASONS = {'provider failure': 0, 'invalid PDU': 2, 'sequence error': 3, 'timer 
            'cannot establish contact': 5, 'undefined': 6}
 
 # "In this order: DC1 DC-PENDING; DC2 DC-ACTIVE; EC1 EC-START-PENDING, EC-PENDING; EC2 EC-CANCEL; PC1 PC-START-PENDING,
-# PC-PENDING; PC2 PC-ACTIVE with EM-IDLE; PC3 PC-CANCEL; EM1 EM-ACTIVE; EM2 EM-MODIFY." Timer, states, with.
+# PC-PENDING; PC2 PC-ACTIVE with EM-IDLE; PC3 PC-CANCEL; EM1 EM-ACTIVE; EM2 EM-MODIFY." And "a timer LI1, last in the
+# watch order: it .. runs exactly in END" (02, L8). Timer, states, with.
 WATCH = [
     ('DC1', ('DC-PENDING',), None),
     ('DC2', ('DC-ACTIVE',), None),
@@ -149,6 +151,7 @@ WATCH = [
     ('PC3', ('PC-CANCEL',), None),
     ('EM1', ('EM-ACTIVE',), None),
     ('EM2', ('EM-MODIFY',), None),
+    ('LI1', ('LI-END',), None),
 ]
 
 # Intervals (02, L2), in whole seconds, 0 for none. "The record gains the interval asked for and the interval in force".
@@ -230,7 +233,7 @@ def provider_abort(reason):
 
 # The link
 
-STEP = re.compile('(start|stop) (...)(?: (if it runs|without an emergency|if PC is ACTIVE))?')
+STEP = re.compile('(start|stop) (...)(?: (if it runs|without an emergency|if PC is ACTIVE|if all IDLE))?')
 
 
 class Link(sidemodel.Link):
@@ -272,7 +275,8 @@ class Link(sidemodel.Link):
     def holds(self, condition, timer):
         return (condition is None or condition == 'if it runs' and timer in self.left
                 or condition == 'without an emergency' and not self.emergency()
-                or condition == 'if PC is ACTIVE' and self.state['PC'] == 'ACTIVE')
+                or condition == 'if PC is ACTIVE' and self.state['PC'] == 'ACTIVE'
+                or condition == 'if all IDLE' and self.ends())
 
     def step(self, step, octets, send):
         """One step of a row of a module."""
@@ -304,9 +308,12 @@ class Link(sidemodel.Link):
             return self.abort('sequence error')
         return self.play(event, octets, 'data-req')
 
+    def ends(self):
+        """Whether an end request is due, or goes; LI is IDLE after an abort."""
+        return self.li != 'IDLE' and self.all_idle()
+
     def end(self):
-        """One end request; LI is IDLE after an abort."""
-        if self.li == 'IDLE' or not self.all_idle():
+        if not self.ends():
             return []
         self.li = 'END'
         return ['end-req']
@@ -323,6 +330,8 @@ class Link(sidemodel.Link):
             return self.receive(octets)
         if step == 'end-req if all IDLE':
             return self.end()
+        if STEP.fullmatch(step):
+            return self.step(step, octets, None)
         if step == 'stops':
             return self.stops()
         if step == 'modules IDLE':
@@ -351,8 +360,9 @@ class Link(sidemodel.Link):
 
 # The script
 
+# "The opening script line takes ten numbers" (02, L8); the other words are 01's.
 WORDS = {
-    'set': settings(9),
+    'set': settings(10),
     'req': OCTETS,
     'user-abort': '',
     'elapse': f' {NUMBER}',

@@ -8,6 +8,7 @@ they do not judge records (29): a difference has to show in what the box does.
 
 import dataclasses
 import functools
+import re
 
 from altering import (BLIND, altered_row, altered_steps, clock_mutants, loading, refusal_mutants, replaced, step_name, swapped,
                       trace_mutants, with_row)
@@ -60,12 +61,11 @@ def added_mutants():
 # LI and the abort rule
 
 def shows(li, todo, steps):
-    """In END no timer runs and all modules are IDLE; the place of `modules IDLE` in a row is never seen."""
-    silent = {'modules IDLE'} | ({'stops'} if li == 'END' else set())
+    """In END all modules are IDLE; the place of `modules IDLE` in a row is never seen."""
     gone = set(todo) - set(steps)
     if gone:
-        return not (li == 'END' and gone <= silent)
-    return [step for step in todo if step not in silent] != [step for step in steps if step not in silent]
+        return not (li == 'END' and gone == {'modules IDLE'})
+    return [step for step in todo if step != 'modules IDLE'] != [step for step in steps if step != 'modules IDLE']
 
 
 # Rows that LI has not.
@@ -80,8 +80,8 @@ ADDED = [
     ('END', 'start-rej', ((), 'IDLE')),
     ('START', 'contract', (('request as data-req',), 'START')),
     ('END', 'contract', (('request as start-req',), 'START')),
-    ('IDLE', 'cancel-all', (('end-req PDU',), 'END')),
-    ('START', 'cancel-all', (('stops', 'modules IDLE', 'end-req PDU'), 'END')),
+    ('IDLE', 'cancel-all', (('end-req PDU', 'start LI1'), 'END')),
+    ('START', 'cancel-all', (('stops', 'modules IDLE', 'end-req PDU', 'start LI1'), 'END')),
     ('END', 'cancel-all', (('end-req PDU',), 'END')),
     *((li, 'end-cnf', ((), li)) for li in ('IDLE', 'START', 'ACTIVE')),
     *(('IDLE', call, ((), 'IDLE')) for call in ('user-abort', 'down', 'air-abort', 'peer-abort')),
@@ -91,7 +91,7 @@ ADDED = [
 
 def li_mutants():
     for (li, call), (todo, after) in RULES.li.items():
-        for name, new in altered_row((todo, after), LI_STATES):
+        for name, new in altered_row((todo, after), LI_STATES, (' if all IDLE',)):
             if new is None or new[1] != after or shows(li, todo, new[0]):
                 yield f'LI.{li}.{call}.{name}', changed(li=with_row(RULES.li, (li, call), new))
     for li, call, row in ADDED:
@@ -168,6 +168,108 @@ def time_mutants():
         yield f'load.{timer}-with-{other}', changed(loading(
             Link, timer, lambda link, timer=timer, other=other: link.settings[other] - link.settings[timer]))
         yield f'load.{timer}-one-less', changed(loading(Link, timer, lambda link: -1))
+
+
+# END and its clock (02, L8)
+
+def end_row_mutants():
+    """LI1 started or stopped, and said so, by what does not."""
+    for (li, call), (todo, after) in RULES.li.items():
+        if not any('LI1' in step for step in todo):
+            yield f'LI.{li}.{call}.start-LI1', changed(li=with_row(RULES.li, (li, call), (todo + ('start LI1',), after)))
+    yield 'LI.END.data.stop-LI1', changed(li=with_row(RULES.li, ('END', 'data'), (('stop LI1', 'late'), 'END')))
+    yield 'LI.END.data.stop-and-start-LI1', changed(li=with_row(RULES.li, ('END', 'data'), (('stop LI1', 'late', 'start LI1'), 'END')))
+    yield 'LI.END.end-cnf.start-LI1', changed(li=with_row(RULES.li, ('END', 'end-cnf'), (('start LI1',), 'IDLE')))
+
+
+def late(then):
+    """Late data does something to LI1, and does not say so."""
+    class Late(Link):
+        def call(self, kind, octets):
+            closed = self.li == 'END'
+            entries = super().call(kind, octets)
+            if closed and kind == 'data':
+                then(self)
+            return entries
+    return Late
+
+
+class NeverStarted(Link):
+    """LI1 starts, it is said, and does not run."""
+    def start(self, timer):
+        entries = super().start(timer)
+        self.left.pop('LI1', None)
+        return entries
+
+    def stops(self):
+        return super().stops() or (['stop LI1'] if self.li == 'END' else [])
+
+
+class GoesOn(Link):
+    """LI1 stops, it is said, and runs on."""
+    expiring = False
+
+    def stop(self, timer):
+        left = self.left.get(timer)
+        entries = super().stop(timer)
+        self.left.update({timer: left} if timer == 'LI1' and left and not self.expiring else {})
+        return entries
+
+    def elapse(self, seconds):
+        self.expiring = True
+        entries = super().elapse(seconds)
+        self.expiring = False
+        return entries
+
+
+class Unwatched(Link):
+    """LI1 is used up, and nothing happens."""
+    def elapse(self, seconds):
+        if self.li != 'END':
+            return super().elapse(seconds)
+        self.left = {timer: max(1, left - seconds) for timer, left in self.left.items()}
+        return []
+
+
+class AsConfirmed(Link):
+    """LI1 is used up, and the link is as if its end were confirmed."""
+    def elapse(self, seconds):
+        used_up = self.li == 'END' and any(left <= seconds for left in self.left.values())
+        return self.call('end-cnf', b'') if used_up else super().elapse(seconds)
+
+
+class NobodyToTell(Link):
+    """LI1 is used up: the user, who has nothing at work, is not told."""
+    def elapse(self, seconds):
+        closed = self.li == 'END'
+        return [entry for entry in super().elapse(seconds) if not (closed and entry.startswith('ind abort'))]
+
+
+class EndsAgain(Link):
+    """LI1 is used up, and the end is asked for again."""
+    def elapse(self, seconds):
+        used_up = self.li == 'END' and any(left <= seconds for left in self.left.values())
+        return ['stop LI1', 'end-req', *self.start('LI1')] if used_up else super().elapse(seconds)
+
+
+NINE = re.compile(rb'set(?: [0-9]+){9}')
+
+
+class NineTaken(Box):
+    """A `set` of nine numbers is taken, with LI1 as in an old log."""
+    @staticmethod
+    def call_of(line):
+        return call_of(line + b' 86400' if NINE.fullmatch(line) else line)
+
+
+def end_mutants():
+    yield from end_row_mutants()
+    yield 'end.late-data-restarts', changed(late(lambda link: link.start('LI1')))
+    yield 'end.late-data-stops', changed(late(lambda link: link.left.clear()))
+    for link in (NeverStarted, GoesOn, Unwatched, AsConfirmed, NobodyToTell, EndsAgain):
+        yield f'end.{link.__name__}', changed(link)
+    yield 'end.LI1-first', judged(watch=RULES.watch[-1:] + RULES.watch[:-1])
+    yield 'end.NineTaken', changed(made=NineTaken)
 
 
 # Intervals (02, L2)
@@ -362,7 +464,7 @@ def interval_load_mutants():
                         'setting-twice': ('setting', 'setting', 'force'), 'interval-twice': ('setting', 'force', 'force')}.items():
         yield f'interval.PC2-loads-{name}', changed(loads={**RULES.loads, 'PC2': parts})
     for timer in RULES.loads:
-        if timer != 'PC2':
+        if timer not in ('PC2', 'LI1'):         # in END there is none
             yield f'interval.{timer}-loads-it-too', changed(loads={**RULES.loads, timer: ('setting', 'force')})
     yield 'interval.PC1-loads-the-asked-one', changed(loads={**RULES.loads, 'PC1': ('setting', 'asked')})
     for name, count in COUNTED.items():
@@ -389,10 +491,13 @@ def interval_record_mutants():
 # The end request and indications
 
 class EndFirst(Link):
-    """The end request before the last entry."""
+    """The end request before what it follows."""
     def call(self, kind, octets):
         entries = super().call(kind, octets)
-        return entries[:-2] + entries[:-3:-1] if entries[-1:] == ['end-req'] else entries
+        if 'end-req' in entries:
+            place = entries.index('end-req')
+            entries[place - 1:place + 1] = entries[place], entries[place - 1]
+        return entries
 
 
 class EndTwice(Link):
@@ -418,6 +523,6 @@ def other_mutants():
     yield from trace_mutants(trace)
 
 
-FAMILIES = (row_mutants, added_mutants, li_mutants, abort_mutants, watch_mutants, time_mutants, interval_row_mutants,
+FAMILIES = (row_mutants, added_mutants, li_mutants, abort_mutants, watch_mutants, time_mutants, end_mutants, interval_row_mutants,
             interval_idle_mutants, interval_load_mutants, interval_record_mutants, other_mutants)
 MUTANTS = dict(mutant for family in FAMILIES for mutant in family())

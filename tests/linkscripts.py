@@ -39,11 +39,12 @@ BESIDE_PC2 = [
     ('req/cancel-contract/periodic',), ('req/cancel-contract/periodic', 'break'), ('emergency',),
     ('emergency', 'req/modify-emergency')]
 
-# How a timer's end is met: PC2 by the row that started it and by the interval in force, the others with one in force and
-# without; and where time comes to a halt there.
+# How a timer's end is met: PC2 by the row that started it and by the interval in force, LI1 by the call that brought the end
+# request and whether data came late, the others with an interval in force and without; and where time comes to a halt there.
 STARTS = [key for key, (todo, _) in RULES.rows.items() if any(step.startswith('start PC2') for step in todo)]
-ENDS = [*STARTS, *SIZES, 'another interval', *((timer, has) for timer, _, _ in RULES.watch for has in ('interval', 'no interval')
-                                               if timer != 'PC2' and (timer, has) != ('PC3', 'no interval'))]
+CLOSINGS = [(word, late) for word in ('start-cnf', 'data', 'req') for late in ('late', 'nothing late')]
+ENDS = [*STARTS, *SIZES, 'another interval', *CLOSINGS, *((timer, has) for timer, _, _ in RULES.watch for has in ('interval', 'no interval')
+                                                          if timer not in ('PC2', 'LI1') and (timer, has) != ('PC3', 'no interval'))]
 EDGES = {-1: 'a second less', 0: 'its end', 1: 'a second more'}
 
 # Kinds of lines, as LI meets them.
@@ -69,7 +70,7 @@ UNREACHABLE = [
      lambda li, place, event: li == 'START' and (place[:2] not in FIRST or place[2] in ('EM not IDLE', 'PC ACTIVE'))),
 ]
 UNREACHABLE_LINES = [
-    ('no timer runs in LI IDLE and END', lambda li, kind: li in (BEFORE, 'IDLE', 'END') and kind == 'elapse expires'),
+    ('no timer runs in LI IDLE', lambda li, kind: li in (BEFORE, 'IDLE') and kind == 'elapse expires'),
 ]
 
 
@@ -126,12 +127,14 @@ class Coverage:
         self.joint_pairs = collections.Counter()
         self.ends = collections.Counter()       # (one of ENDS, edge)
         self.started = None                     # the row that started PC2 last
+        self.closing = self.word = None         # the call that brought the end request and whether data came late; the last call's word
 
     def note(self, box, line):
         link, call = box.link, call_of(line)
         kind = kind_of(link, call)
         self.lines[link.li if link else BEFORE, kind] += 1
         self.joints['END'] += link is not None and link.li == 'END'
+        self.note_closing(link, call)
         if kind in ('elapse runs on', 'elapse expires') and link:
             self.note_end(link, call.numbers[0])
         event = event_of(link, call) if link and kind != 'no call' else None
@@ -143,9 +146,18 @@ class Coverage:
         self.joints[joint(link)] += 1
         self.joint_pairs[joint(link), event] += 1
 
+    def note_closing(self, link, call):
+        if not link or link.li != 'END':
+            self.closing, self.word = None, call.word
+        else:
+            self.closing = self.closing or (self.word, 'nothing late')
+            self.closing = (self.closing[0], 'late') if call.word == 'data' and call.formed else self.closing
+
     def ends_of(self, link, timer):
         if timer == 'PC2':
             return self.started, link.force if link.force in SIZES else 'another interval'
+        if timer == 'LI1':
+            return (self.closing or (self.word, 'nothing late'),)
         return ((timer, 'interval' if link.force else 'no interval'),)
 
     def note_end(self, link, seconds):
@@ -221,7 +233,7 @@ def lists(link, kind):
 class Maker(scriptmaking.Maker):
     """What is rarely met is tried more."""
 
-    kinds, count, hex_words = KINDS, 9, ('req', 'start-cnf', 'data', 'air-abort')
+    kinds, count, hex_words = KINDS, len(RULES.watch), ('req', 'start-cnf', 'data', 'air-abort')
     elsewhere = ('air ', 'end', 'start-req ', 'start-ind ', 'ground-abort ')
 
     def __init__(self, rng, coverage):
@@ -253,7 +265,7 @@ class Maker(scriptmaking.Maker):
     def settings(self):
         high = self.rng.choice((3, 6, 12, 12, 60, 60, MOST))
         low = self.rng.choice((1, 2, high // 2 + 1))
-        numbers = [self.rng.choice((self.rng.randint(low, high), self.rng.randint(low, high), high)) for _ in range(9)]
+        numbers = [self.rng.choice((self.rng.randint(low, high), self.rng.randint(low, high), high)) for _ in range(self.count)]
         if self.story is not None and self.rng.random() < 0.2:
             numbers[5] = MOST       # PC2 then runs for longer than an elapse may be
         return numbers
@@ -293,10 +305,10 @@ class Maker(scriptmaking.Maker):
         return self.of_event(link, event)
 
     def new_story(self, link):
-        """A periodic contract is agreed, what follows is met by time or by what ends the link."""
+        """A periodic contract is agreed, what follows is met by time or by what ends the link; or the link is closed, and time goes by."""
         rng = self.rng
-        if link.left and 'PC2' not in link.left:
-            return ['req/cancel-all']
+        if link.left and ('PC2' not in link.left or rng.random() < 0.2):
+            return ['req/cancel-all', *self.maybe('emergency'), 'time', 'time']
         first = [] if link.left else ['req/periodic-contract', rng.choice(ANSWERS[:3])]
         rest = list(rng.choice(BESIDE_PC2)) if rng.random() < 0.3 else self.changes()
         calls = [*first, *rest, 'time', 'time']

@@ -18,14 +18,14 @@ TIMES = 1.5                     # what a record may cost more, where there are t
 
 
 def script(count):
-    return b"set 60 60 60 60 60 60 60 60 60\n" + b"elapse 0\n" * (count - 1)
+    return b"set 60 60 60 60 60 60 60 60 60 60\n" + b"elapse 0\n" * (count - 1)
 
 
 def due_log(count):
-    """The settings have 42 octets and the others 6: 78 in the first block, 84 in each other."""
+    """The settings have 46 octets and the others 6: 77 in the first block, 84 in each other."""
     elapse, records = bytes([3, 0, 0, 0, 0, 0]), count - 1
-    payloads = [next(logmodel.recorded(script(1))) + elapse * min(records, 77)]
-    rest = records - min(records, 77)
+    payloads = [next(logmodel.recorded(script(1))) + elapse * min(records, 76)]
+    rest = records - min(records, 76)
     payloads += [elapse * 84] * (rest // 84) + [elapse * (rest % 84)] * (rest % 84 > 0)
     return payloads
 

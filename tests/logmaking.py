@@ -28,8 +28,9 @@ class Scripts:
         found = []
         for line in self.maker.script(self.rng.choice((3, 30, 60, 60, 120, 200))).split(b'\n'):
             found += [line, self.between()] if self.rng.random() < 0.1 else [line]
-        if self.rng.random() < 0.3:     # a link that closes: what comes is late
+        if self.rng.random() < 0.3:     # a link that closes: what comes is late, and then its clock runs out, of an old log too
             found += [b'elapse 86400', b'req 3000', b'start-cnf 2130', *(b'data ' + self.rng.randbytes(size).hex().encode() for size in self.rng.sample(LENGTHS[1:], 5))]
+            found += [b'elapse 86399', b'elapse 1'] if self.rng.random() < 0.5 else []
         return b'\n'.join(found) + self.rng.choice((b'', b'\n'))
 
 
@@ -108,7 +109,7 @@ def length_over(rng, log):
 
 def full_and_over(rng, log):
     """Records to the last octet, and a length beyond."""
-    first = sealed([blocks_of(log)[0][:1] + [spelt(NUMBER['elapse'])] * 77])
+    first = sealed([blocks_of(log)[0][:1] + [spelt(NUMBER['elapse'])] * 75 + [spelt(NUMBER['req'], 0, bytes.fromhex('3000'))]])
     return patched(first, 0, {4: rng.choice((505, 506, 510, 1000, 65535)).to_bytes(2, 'big')})
 
 
@@ -187,7 +188,7 @@ def unused_seconds(rng, record):
 
 
 def unused_data(rng, record):
-    data = rng.randbytes(rng.choice((1, 2, 36, 129)))
+    data = rng.randbytes(rng.choice((1, 2, 36, 40, 129)))
     return [record[:5] + bytes([len(data)]) + data] if word_of(record) not in WITH_DATA else None
 
 
@@ -197,14 +198,18 @@ def long_data(rng, record):
     return [record[:5] + bytes([size]) + data[:size]] if word_of(record) in ('start-cnf', 'data', 'air-abort') else None
 
 
+def settings_of(size):
+    """So many octets; what is left of the last number would be a setting too."""
+    return (86400).to_bytes(4, 'big') * (size // 4) + ((60).to_bytes(size % 4, 'big') if size % 4 else b'')
+
+
 def wrong_settings(rng, record):
-    size = rng.choice((0, 1, 35, 33, 37, 40, 41, 72))
-    data = ((86400).to_bytes(4, 'big') * 18)[:size]     # of 35 octets too, the last number would be a setting
-    return [record[:5] + bytes([size]) + data] if word_of(record) == 'set' else None
+    size = rng.choice((0, 1, 32, 35, 33, 37, 38, 39, 41, 44, 72, 80))
+    return [record[:5] + bytes([size]) + settings_of(size)] if word_of(record) == 'set' else None
 
 
 def bad_setting(rng, record):
-    place = 6 + 4 * rng.randrange(9)
+    place = 6 + 4 * rng.randrange(10)
     number = rng.choice((0, 86401, 2 ** 32 - 1, 1 << 24)).to_bytes(4, 'big')
     return [record[:place] + number + record[place + 4:]] if word_of(record) == 'set' else None
 
@@ -258,7 +263,12 @@ def default_sent(rng, log):
     return sealed([[first[0], spelt(NUMBER['req'], 0, bytes.fromhex('640420')), spelt(NUMBER['down']), *first[1:]], *rest])
 
 
-GOOD = {'packed loosely': packed_loosely, 'empty block': empty_block, 'default sent': default_sent}
+def old_settings(rng, record):
+    """36 octets, as before L8: END then lasts a day."""
+    return [record[:5] + bytes([36]) + record[6:42]] if word_of(record) == 'set' else None
+
+
+GOOD = {'old settings': changing(old_settings), 'packed loosely': packed_loosely, 'empty block': empty_block, 'default sent': default_sent}
 WRONG = {
     'number': number, 'block left out': block_left_out, 'block twice': block_twice, 'blocks exchanged': blocks_exchanged,
     'length over': length_over, 'full and over': full_and_over, 'length less': length_less, 'length more': length_more,
@@ -268,7 +278,7 @@ WRONG = {
     'unused seconds': changing(unused_seconds), 'unused data': changing(unused_data), 'long data': changing(long_data),
     'wrong settings': changing(wrong_settings), 'bad setting': changing(bad_setting), 'long elapse': changing(long_elapse),
     'settings later': settings_later, 'no settings': no_settings, 'no records': no_records,
-    'settings again': inserting(lambda rng: spelt(0, 0, (60).to_bytes(4, 'big') * 9)),
+    'settings again': inserting(lambda rng: spelt(0, 0, (60).to_bytes(4, 'big') * rng.choice((9, 10)))),
     'request unreadable': inserting(lambda rng: spelt(NUMBER['req'], 0, rng.choice((b'', b'\x30', b'\x30\x01', bytes(129))))),
     'no request': inserting(lambda rng: spelt(NUMBER['req'], 0, rng.choice((b'\x20', b'\x74')))),
 }

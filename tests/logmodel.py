@@ -1,4 +1,4 @@
-"""A model of the flight log of one link, written from L6 of page 02 and page 01 alone: the recorder, the reader and the player.
+"""A model of the flight log of one link, written from L6 and L8 of page 02 and page 01 alone: the recorder, the reader and the player.
 
 It shares nothing with the box it is compared with but these pages; the calls and their answers are those of linkmodel.py.
 
@@ -26,8 +26,9 @@ KINDS = tuple(linkmodel.WORDS)
 RECORD_HEAD = 6
 
 # The words whose calls have data: "a request's data is its written PDU, and the settings are the first record, 36 octets of data."
+# "a settings record in the log holds forty octets; logs with thirty-six are read with LI1 at 86,400" (L8).
 WITH_DATA = ('set', 'req', 'start-cnf', 'data', 'air-abort')
-SETTINGS = 36
+SETTINGS, OLD_SETTINGS, OLD_LI1 = 40, 36, 86400
 
 # "Of longer data the first 129 octets are kept, which get the same answer."
 KEPT = 129
@@ -65,7 +66,9 @@ class Rules:
     records: callable = lambda call, answer: answer.startswith('ok')        # "every accepted call"
     request: callable = lambda octets: written('ground', octets)            # "its written PDU"
     with_data: tuple = WITH_DATA
-    settings: int = SETTINGS
+    settings: int = SETTINGS        # octets that the recorder writes,
+    lengths: tuple = (SETTINGS, OLD_SETTINGS)       # and those that a reader takes
+    old: callable = lambda numbers: OLD_LI1         # LI1 where there are nine numbers
     grounds: tuple = GROUNDS
     shows_refused: bool = False     # the records of a refused block (G122: not)
     empty: int = 20                 # for a log that has no record (G87, G120)
@@ -79,7 +82,7 @@ RULES = Rules()
 
 def data_of(call, rules):
     if call.word == 'set':
-        return b''.join(number.to_bytes(4, rules.order) for number in call.numbers)
+        return b''.join(number.to_bytes(4, rules.order) for number in call.numbers)[:rules.settings]
     if call.word == 'req':
         return rules.request(call.octets)
     return call.octets[:rules.kept] if call.word in WITH_DATA else b''
@@ -180,7 +183,7 @@ class Reader:
         return any(record.size for record in self.records(block) if self.word(record) not in self.rules.with_data)
 
     def settings_length(self, block):
-        return any(record.size != self.rules.settings for record in self.records(block) if self.word(record) == 'set')
+        return any(record.size not in self.rules.lengths for record in self.records(block) if self.word(record) == 'set')
 
     def refused_in_play(self, block):
         """Also "no settings first", and "Settings in any other place are 20": a script line before a good `set`, and a `set` after it, are 17."""
@@ -201,11 +204,15 @@ class Reader:
         """The script line of a record's call."""
         word = self.word(record)
         if word == 'set':
-            numbers = [int.from_bytes(record.data[place:place + 4], self.rules.order) for place in range(0, len(record.data), 4)]
-            return ' '.join([word, *map(str, numbers)]).encode()
+            return ' '.join([word, *map(str, self.numbers(record.data[:SETTINGS]))]).encode()
         if word == 'elapse':
             return b'elapse %d' % record.seconds
         return f'{word} {record.data.hex()}'.rstrip().encode() if word in WITH_DATA else word.encode()
+
+    def numbers(self, data):
+        """The settings of a record; of another length they are refused besides."""
+        numbers = [int.from_bytes(data[place:place + 4], self.rules.order) for place in range(0, len(data), 4)]
+        return numbers + [self.rules.old(numbers)] if len(data) <= OLD_SETTINGS else numbers
 
     def played(self, box, block):
         """The answers to records of a kind that there is; a refused one is the last."""

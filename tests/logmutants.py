@@ -111,6 +111,7 @@ def recorder_mutants():
         yield f'kept.{kept}', recorder(kept=kept)
     for room in (500, 503):
         yield f'room.{room}', recorder(room=room)
+    yield 'settings.36', recorder(settings=36)
     yield 'first-block-1', recorder(first=1)
     yield 'filled-with-ff', recorder(filling=b'\xff')
     yield 'little-endian', recorder(order='little')
@@ -219,13 +220,18 @@ def ground_mutants():
 def reader_mutants():
     for made in (NoEmptyBlock, NoRoomLeft, WrittenAlone, FreshLink, CutZeros, ZerosFromNext, LowOctets, Rising, NotOnlyFirst, BeforeSettings):
         yield f'reader.{made.__name__}', reader(made)
-    for most in (36, 127, 128, 130, 255):
+    for most in (36, 40, 127, 128, 130, 255):
         yield f'reader.data-of-{most}', reader(most=most)
     for word in KINDS:
         if word not in WITH_DATA:
             yield f'reader.data-of-{word}', reader(with_data=(*WITH_DATA, word))
-    for size in (35, 37, 40):
-        yield f'reader.settings-of-{size}', reader(settings=size)
+    for size in (35, 37, 38, 39, 41, 44):
+        yield f'reader.settings-of-{size}-too', reader(lengths=(*RULES.lengths, size))
+    for size in RULES.lengths:
+        yield f'reader.settings-of-{size}-alone', reader(lengths=(size,))
+    for name, old in {'a-second-less': lambda numbers: 86399, 'the-last': lambda numbers: numbers[-1], 'the-longest': max, 'six-minutes': lambda numbers: 360,
+                      'none': lambda numbers: 0}.items():
+        yield f'reader.old-LI1-{name}', reader(old=old)
     yield 'reader.shows-the-refused-block', reader(shows_refused=True)
     yield 'reader.numbers-from-0', reader(numbered=0)
     yield 'reader.no-record-is-good', reader(empty=0)

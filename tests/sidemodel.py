@@ -142,7 +142,7 @@ class Link:
 
     def watched(self):
         """The timers that run by the watch table."""
-        now = {f'{module}-{state}' for module, state in self.state.items()}
+        now = {f'LI-{self.li}', *(f'{module}-{state}' for module, state in self.state.items())}
         return {timer for timer, states, also in self.rules.watch
                 if not now.isdisjoint(states) and (also is None or also in now)}
 

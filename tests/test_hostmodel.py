@@ -134,37 +134,41 @@ for element, place, kinds in ((64, 13, ((0, 1, 255), (1, 1, 700))), (8, 17, ((0,
 check('twelve bits', event(2048, LEAVING), '5 999  ' + 'a5' * 18)
 check('no element, whatever the numbers', event(0, [99999] * 12), '15 999  ' + 'a5' * 18)
 
-# Records: nine settings of 60, the seconds left, the states of DC, EC, PC, EM and LI, the interval asked for and the one in force.
-NONE, OUT = [0] * 9, 'a5' * 31
+# Records: ten settings of 60, the seconds left, the states of DC, EC, PC, EM and LI, the interval asked for and the one in force.
+NONE, OUT = [0] * 10, 'a5' * 31
 
 
-def record(left, states, settings=(60,) * 9, intervals=(0, 0)):
+def record(left, states, settings=(60,) * 10, intervals=(0, 0)):
     return ''.join([*(f'{number:08x}' for number in (*settings, *left)), *(f'{state:02x}' for state in states), *(f'{number:08x}' for number in intervals)])
 
 
 def left(place, seconds):
-    return [seconds if at == place else 0 for at in range(9)]
+    return [seconds if at == place else 0 for at in range(10)]
 
 
 FRESH, PENDING = record(NONE, (0, 0, 0, 0, 0)), record(left(0, 60), (1, 0, 0, 0, 1))
-check('open', 'open ' + 'a5' * 85 + '   ' + ' '.join(['60'] * 9), f'0 999 {FRESH} ')
-check('open: a setting', f'open {FRESH}   ' + ' '.join(['86401'] * 9), f'3 999 {FRESH} ')
-check('open: eight settings', f'open {FRESH}   ' + ' '.join(['60'] * 8), f'3 999 {FRESH} ')
-for size in (0, 77, 84, 86):
+check('open', 'open ' + 'a5' * 93 + '   ' + ' '.join(['60'] * 10), f'0 999 {FRESH} ')
+check('open: a setting', f'open {FRESH}   ' + ' '.join(['86401'] * 10), f'3 999 {FRESH} ')
+for count in (8, 9, 11, 20):
+    check(f'open: {count} settings', f'open {FRESH}   ' + ' '.join(['60'] * count), f'3 999 {FRESH} ')
+for setting, number in ((0, 3), (1, 0), (86400, 0), (86401, 3)):
+    opened = FRESH if number else record(NONE, (0, 0, 0, 0, 0), (60,) * 9 + (setting,))
+    check(f'open: LI1 of {setting}', f'open {FRESH}   ' + '60 ' * 9 + str(setting), f'{number} 999 {opened} ')
+for size in (0, 85, 92, 94):
     octets = 'a5' * size
-    check(f'open: {size} octets', f'open {octets}   ' + ' '.join(['60'] * 9), f'6 999 {octets} ')
+    check(f'open: {size} octets', f'open {octets}   ' + ' '.join(['60'] * 10), f'6 999 {octets} ')
 check('a demand contract', f'request {FRESH}  {OUT} 3', f'0 999 {PENDING} ' + '00000000 02 0120000000000000 02 3000'.replace(' ', '') + '00' * 15)
 check('59 seconds', f'elapse {PENDING}  {OUT} 59', '0 999 ' + record(left(0, 1), (1, 0, 0, 0, 1)) + ' ' + '00' * 31)
 check('60 seconds', f'elapse {PENDING}  {OUT}ff 60', f'0 999 {FRESH} ' + '00000004 03 1004060000000000 01 74'.replace(' ', '') + '00' * 16 + 'ff')
 check('all eleven asked for', f'request {FRESH}  {OUT}ff 4 2047' + ' 0' * 7 + ''.join(f' {number}' for number in HIGHEST),
       '0 999 ' + record(left(2, 60), (0, 1, 0, 0, 1)) + ' ' + '00000000 02 0122000000000000 11 '.replace(' ', '') + HIGHEST_SENT + 'ff')
 for what, bad in {
-        'DC1 does not run': record(NONE, (1, 0, 0, 0, 1)), 'DC2 runs too': record([60, 1] + [0] * 7, (1, 0, 0, 0, 1)),
-        '61 left': record(left(0, 61), (1, 0, 0, 0, 1)), 'a setting of 0': record(NONE, (0, 0, 0, 0, 0), (60,) * 8 + (0,)),
-        'a setting of 86,401': record(NONE, (0, 0, 0, 0, 0), (86401,) + (60,) * 8), 'IDLE': record(left(0, 60), (1, 0, 0, 0, 0)),
-        'END': record(left(0, 60), (1, 0, 0, 0, 3)), 'no state': record(NONE, (3, 0, 0, 0, 1)), 'no state of LI': record(NONE, (0, 0, 0, 0, 4)),
-        'PC2 in an emergency': record([0] * 5 + [1, 0, 1, 0], (0, 0, 3, 1, 2), intervals=(0, 60)), '84 octets': PENDING[2:], '86 octets': PENDING + '00',
-        '77 octets': PENDING[:-16], 'nothing': ''}.items():
+        'DC1 does not run': record(NONE, (1, 0, 0, 0, 1)), 'DC2 runs too': record([60, 1] + [0] * 8, (1, 0, 0, 0, 1)),
+        '61 left': record(left(0, 61), (1, 0, 0, 0, 1)), 'a setting of 0': record(NONE, (0, 0, 0, 0, 0), (60,) * 9 + (0,)),
+        'a setting of 86,401': record(NONE, (0, 0, 0, 0, 0), (86401,) + (60,) * 9), 'IDLE': record(left(0, 60), (1, 0, 0, 0, 0)),
+        'END': record([60] + [0] * 8 + [60], (1, 0, 0, 0, 3)), 'no state': record(NONE, (3, 0, 0, 0, 1)), 'no state of LI': record(NONE, (0, 0, 0, 0, 4)),
+        'PC2 in an emergency': record([0] * 5 + [1, 0, 1, 0, 0], (0, 0, 3, 1, 2), intervals=(0, 60)), '92 octets': PENDING[2:], '94 octets': PENDING + '00',
+        '85 octets': PENDING[:-16], '85 octets of before L8': ('0000003c' * 9) + '00' * 49, 'nothing': ''}.items():
     for call in ('elapse {}  {} 86401', 'user_abort {}  {}', 'end_confirm {}  {}', 'data {} 00 {}', 'request {}  {} 3 130'):
         for out in (OUT, ''):
             check(f'29: {what}', call.format(bad, out), f'29 999 {bad} {out}')
@@ -203,7 +207,7 @@ def bad(what, link):
     check(f'29: {what}', f'elapse {link}   86401', f'29 999 {link} ')
 
 
-stays('octets 77 to 84', '0000003c' * 9 + '00000000' * 4 + '0000003b' + '00000000' * 4 + '0000020002' + '00000102' + '00001c20')
+stays('octets 85 to 92', '0000003c' * 10 + '00000000' * 4 + '0000003b' + '00000000' * 5 + '0000020002' + '00000102' + '00001c20')
 # A report every two hours is asked for (64 07 b8) and agreed: PC2 runs for 7,200 and 60 seconds, and each report starts it anew.
 PLAIN, WITH_ACK = '3000000000000000012c00000000', '3200000000000000012c00000000'
 TWO_HOURS = periodic(ACTIVE, 7260, 0, 7200)
@@ -225,16 +229,17 @@ for what, octets in (('positive ack', '3880'), ('report with ack', WITH_ACK), ('
     becomes(what, f'data {octets}', CHANGING, periodic(ACTIVE, 90, 0, 30), [20, 5, 37])
     becomes(f'{what} at the start', f'data {octets}', periodic(START_PENDING, 9, 30), periodic(ACTIVE, 90, 0, 30), [20, 5, 37])
 # In an emergency (EM1 has 7 seconds left) the new one is in force at the answer, and PC2 starts with it at the end.
-URGENT = [0] * 7 + [7, 0]
-becomes('an answer in an emergency', 'data 3880', record([0] * 4 + [9, 0, 0, 7, 0], (0, 0, CHANGE, 1, 2), intervals=(30, 7200)),
+URGENT = [0] * 7 + [7, 0, 0]
+becomes('an answer in an emergency', 'data 3880', record([0] * 4 + [9, 0, 0, 7, 0, 0], (0, 0, CHANGE, 1, 2), intervals=(30, 7200)),
         record(URGENT, (0, 0, ACTIVE, 1, 2), intervals=(0, 30)), [20, 5])
 becomes('the end of an emergency', 'data 00', record(URGENT, (0, 0, ACTIVE, 1, 2), intervals=(0, 30)), periodic(ACTIVE, 90, 0, 30), [23, 5, 2, 37], '20')
-# A cancel leaves it in force; where PC goes IDLE there is none.
+# A cancel leaves it in force; where PC goes IDLE there is none. LI1, number 9, starts with the end request (02, L8).
+ENDING = record(left(9, 60), (0, 0, 0, 0, 3))
 becomes('a cancel', 'request 1 1', TWO_HOURS, periodic(CANCEL, 60, 0, 7200), [21, 2, 38], '14')
-becomes('cancelled', 'data 3a00', periodic(CANCEL, 9, 0, 7200), periodic(IDLE, li=3), [22, 5, 3])
-becomes('refused', 'start_confirm 20b0', periodic(START_PENDING, 9, 30, li=1), periodic(IDLE, li=3), [20, 5, 3])
+becomes('cancelled', 'data 3a00', periodic(CANCEL, 9, 0, 7200), ENDING, [22, 5, 3, 41])
+becomes('refused', 'start_confirm 20b0', periodic(START_PENDING, 9, 30, li=1), ENDING, [20, 5, 3, 41])
 becomes('rejected', 'start_rejected', periodic(START_PENDING, 9, 30, li=1), FRESH, [20, 6], '', 5)
-becomes('cancel-all', 'request 0', CHANGING, periodic(IDLE, li=3), [20, 3], '00')
+becomes('cancel-all', 'request 0', CHANGING, ENDING, [20, 3, 41], '00')
 becomes('user abort', 'user_abort', CHANGING, FRESH, [20, 4])
 becomes('down', 'down', CHANGING, FRESH, [20, 6])
 becomes('not due', 'data 3a00', CHANGING, FRESH, [20, 4, 6], '73', 3)
@@ -246,17 +251,57 @@ for state, has_asked, has_force in ((IDLE, 0, 0), (START_PENDING, 1, 0), (CHANGE
         (judge if has_force else bad if seconds else stays)(f'force {seconds} at {state}', periodic(state, 60, 60 * has_asked, seconds))
 # 29: PC2 has no more left than interval plus setting, the others no more than their setting.
 for setting, force in ((60, 7200), (60, 1), (1, 1), (86400, 7200)):
-    settings = [setting] * 9
+    settings = [setting] * 10
     for seconds in (1, setting, setting + 1, setting + force):
         stays(f'{seconds} of {setting} + {force}', record(left(5, seconds), (0, 0, ACTIVE, 0, 2), settings, (0, force)))
     bad(f'one more than {setting} + {force}', record(left(5, setting + force + 1), (0, 0, ACTIVE, 0, 2), settings, (0, force)))
 bad('PC1', periodic(START_PENDING, 61, 7200))
 bad('PC1 of a change', periodic(CHANGE, 61, 7200, 7200))
 bad('PC3', periodic(CANCEL, 61, 0, 7200))
-bad('EM1', record([0] * 7 + [61, 0], (0, 0, ACTIVE, 1, 2), intervals=(0, 7200)))
+bad('EM1', record([0] * 7 + [61, 0, 0], (0, 0, ACTIVE, 1, 2), intervals=(0, 7200)))
+
+# END (02, L8): LI1 runs there and nowhere else, from the end request to its confirmation, an abort or its end; late data leaves it.
+
+
+def ending(seconds, li=3, settings=(60,) * 10):
+    return record(left(9, seconds), (0, 0, 0, 0, li), settings)
+
+
+stays('octets 36 to 39 and 76 to 79', '0000003c' * 9 + '00000102' + '00000000' * 9 + '00000101' + '0000000003' + '00' * 8)
+becomes('a demand answered', 'start_confirm 2130', PENDING, ENDING, [16, 5, 3, 41])
+becomes('59 seconds in END', 'elapse 59', ENDING, ending(1), [])
+becomes('one more', 'elapse 1', ending(1), FRESH, [25, 4, 6], '74', 4)
+becomes('60 seconds in END', 'elapse 60', ENDING, FRESH, [25, 4, 6], '74', 4)
+becomes('a day in END', 'elapse 86400', ENDING, FRESH, [25, 4, 6], '74', 4)
+becomes('no time in END', 'elapse 0', ending(1), ending(1), [])
+for octets in ('', '00', PLAIN, 'ff'):
+    becomes(f'late data {octets}', f'data {octets}', ending(1), ending(1), [8])
+becomes('the end confirmed', 'end_confirm', ending(1), FRESH, [25])
+becomes('user abort in END', 'user_abort', ending(1), FRESH, [25, 4])
+becomes('down in END', 'down', ending(1), FRESH, [25, 6])
+becomes('peer abort in END', 'peer_abort', ending(1), FRESH, [25, 7])
+check('air abort in END', f'air_abort {ending(1)} 4200 {OUT}', f'0 999 {FRESH} ' + answered([25, 6], '', 4))
+for call in ('request {}  {} 3', 'request {}  {} 0'):
+    check('1 in END', call.format(ENDING, OUT), f'1 999 {ENDING} {OUT}')
+for call in ('start_confirm {} 2130 {}', 'start_rejected {}  {}'):
+    check('2 in END', call.format(ENDING, OUT), f'2 999 {ENDING} {OUT}')
+for setting in (1, 60, 86400):
+    settings = (60,) * 9 + (setting,)
+    for seconds in (1, setting):
+        stays(f'{seconds} of {setting} in END', ending(seconds, 3, settings))
+    for seconds in (0, setting + 1, 2 ** 32 - 1):
+        bad(f'{seconds} of {setting} in END', ending(seconds, 3, settings))
+    for li in (0, 1, 2):
+        stays(f'LI1 of {setting} rests in LI {li}', ending(0, li, settings))
+        bad(f'LI1 of {setting} runs in LI {li}', ending(1, li, settings))
+for setting in (0, 86401, 2 ** 32 - 1):
+    bad(f'LI1 of {setting}', ending(0, 0, (60,) * 9 + (setting,)))
+    bad(f'LI1 of {setting} in END', ending(1, 3, (60,) * 9 + (setting,)))
+bad('another timer in END', record([0] * 8 + [60, 60], (0, 0, 0, 0, 3)))
+bad('EM2 in place of LI1', record([0] * 8 + [60, 0], (0, 0, 0, 0, 3)))
 
 # Blocks of the flight log (02, L6). The checks are summed by hand: each octet times its place.
-ZEROS, ANY = '00' * 85, 'a5' * 512
+ZEROS, ANY = '00' * 93, 'a5' * 512
 
 
 def block(number, payload='', check=0, length=None):
@@ -272,14 +317,16 @@ def not_kept(what, number, link, call, data=''):
     check(what, f'block_append {link} {data}  {call}', f'{number} 999 {link} ')
 
 
-EMPTY, SETTINGS = block(0), block(0, '00 00000000 24' + '0000003c' * 9, 1 + 42 * 6 + 36 * 12 + 60 * 288)
+# The settings stand at places 13 to 52, each with its 60 at a fourth of them: 16 + .. + 52 = 340, and 288 without the last.
+EMPTY, SETTINGS = block(0), block(0, '00 00000000 28' + '0000003c' * 10, 1 + 46 * 6 + 40 * 12 + 60 * 340)
+OLD_SETTINGS = block(0, '00 00000000 24' + '0000003c' * 9, 1 + 42 * 6 + 36 * 12 + 60 * 288)
 check('block 0', f'block_open {ANY}  77 0', f'0 999 {EMPTY} 77')
 check('block 1', f'block_open {ANY}   1', '0 999 ' + block(1) + ' ')
 check('the last block', f'block_open {ANY}   16777215', '0 999 ' + block(0xffffff) + ' ')
 check('no block behind it', f'block_open {ANY}   16777216', f'5 999 {ANY} ')
 check('a block of 511', f'block_open {ANY[2:]}   0', f'6 999 {ANY[2:]} ')
 check('5 before 6', f'block_open {ANY}a5   4294967295', f'5 999 {ANY}a5 ')
-kept('settings', EMPTY, '0 0', block(0, '00 00000000 24' + '0000003c' * 9), '0000003c' * 9)
+kept('settings', EMPTY, '0 0', block(0, '00 00000000 28' + '0000003c' * 10), '0000003c' * 10)
 kept('seconds', EMPTY, '3 258', block(0, '03 00000102 00'))
 kept('data', block(1), '6 0', block(1, '06 00000000 02 2130'), '2130')
 kept('the first 129 octets', EMPTY, '9 0', block(0, '09 00000000 81' + '00' * 129), '00' * 129 + 'ff')
@@ -290,7 +337,7 @@ FULL = block(0, '00' * 498)
 kept('to the last octet', FULL, '10 0', block(0, '00' * 498 + '0a 00000000 00'))
 not_kept('one octet more', 6, FULL, '6 0', '00')
 for what, call, data in (('kind 11', '11 0', ''), ('kind 255', '255 0', ''), ('seconds of data', '6 1', '00'), ('data of an elapse', '3 1', '00'),
-                         ('data of down', '10 0', '00'), ('35 octets of settings', '0 0', '00' * 35), ('37', '0 0', '00' * 37), ('no settings', '0 0', '')):
+                         ('data of down', '10 0', '00'), ('36 octets of settings', '0 0', '0000003c' * 9), ('39', '0 0', '00' * 39), ('41', '0 0', '00' * 41), ('no settings', '0 0', '')):
     not_kept(what, 5, EMPTY, call, data)
     not_kept(f'{what}, before 6', 5, FULL, call, data)
 for what, wrong in (('511 octets', EMPTY[2:]), ('513 octets', EMPTY + '00'), ('a payload of 505', block(0, '', 0, 505)), ('block 2^24', block(1 << 24)), ('nothing', '')):
@@ -308,21 +355,30 @@ def finished(what, number, payload, total, behind=''):
 
 finished('block 0', 0, '', 0)
 finished('the last block', 0xffffff, '', 255 * (2 + 3 + 4))
-finished('settings', 0, '00 00000000 24' + '0000003c' * 9, 42 * 6 + 36 * 12 + 60 * 288)
+finished('settings', 0, '00 00000000 28' + '0000003c' * 10, 46 * 6 + 40 * 12 + 60 * 340)
+finished('settings of before L8', 0, '00 00000000 24' + '0000003c' * 9, 42 * 6 + 36 * 12 + 60 * 288)
 finished('seconds', 0, '03 00000102 00', 6 * 6 + 3 * 7 + 1 * 10 + 2 * 11)
 finished('zeros behind', 1, '06 00000000 02 2130', 4 + 8 * 6 + 6 * 7 + 2 * 12 + 0x21 * 13 + 0x30 * 14, behind='a5' * 496)
 finished('a full block', 0, 'ff' * 504, 1 * 5 + 0xf8 * 6 + 255 * (130305 - 21))       # 7 + .. + 510
 
 REQUEST = block(1, '01 00000000 02 3000', 1 + 4 + 8 * 6 + 7 + 2 * 12 + 0x30 * 13)
 check('settings played', f'block_play {ZEROS} {SETTINGS}  0', f'0 999 {FRESH} ')
+check('36 octets of settings played: LI1 is 86,400', f'block_play {ZEROS} {OLD_SETTINGS}  0', f'0 999 {record(NONE, (0, 0, 0, 0, 0), (60,) * 9 + (86400,))} ')
 check('a request played', f'block_play {FRESH} {REQUEST} 77 1', f'0 999 {PENDING} 77')
 check('no record', f'block_play {ZEROS} {EMPTY[:-2]}01  0', f'0 999 {ZEROS} ')
 for what, number, link, octets, turn in (
-        ('settings twice', 20, FRESH, SETTINGS, 0), ('no settings', 20, ZEROS, REQUEST, 1), ('out of turn', 19, FRESH, REQUEST, 0),
+        ('settings twice', 20, FRESH, SETTINGS, 0), ('settings twice, 36 octets', 20, FRESH, OLD_SETTINGS, 0), ('no settings', 20, ZEROS, REQUEST, 1), ('out of turn', 19, FRESH, REQUEST, 0),
         ('not permitted', 20, PENDING, REQUEST, 1), ('check wrong', 18, FRESH, REQUEST[:-2] + '00', 1), ('18 before 19', 18, FRESH, REQUEST[:-2] + '00', 7),
-        ('511 octets', 20, FRESH, REQUEST[2:], 1), ('29 before the block', 29, FRESH[:-2] + '01', REQUEST[2:], 1), ('84 zeros', 29, ZEROS[2:], SETTINGS, 0),
+        ('511 octets', 20, FRESH, REQUEST[2:], 1), ('29 before the block', 29, FRESH[:-2] + '01', REQUEST[2:], 1), ('92 zeros', 29, ZEROS[2:], SETTINGS, 0), ('85 zeros', 29, ZEROS[16:], OLD_SETTINGS, 0),
         ('19 before 20', 19, PENDING, REQUEST, 2), ('a block behind the last', 19, FRESH, block(1 << 24, '', 1 + 1), 1 << 24)):
     check(f'play: {what}', f'block_play {link} {octets}  {turn}', f'{number} 999 {link} ')
+
+# Settings of another length are 20, though each number is 60, what is left of the last too.
+for size in (0, 4, 32, 35, 37, 38, 39, 41, 44):
+    sixties = [*range(16, 13 + size, 4), *([12 + size] if size % 4 else [])]
+    payload = f'00 00000000 {size:02x}' + ''.join('3c' if place in sixties else '00' for place in range(13, 13 + size))
+    octets = block(0, payload, 1 + (6 + size) * 6 + size * 12 + 60 * sum(sixties))
+    check(f'play: {size} octets of settings', f'block_play {ZEROS} {octets}  0', f'20 999 {ZEROS} ')
 
 if failures:
     print(f'hostmodel: {failures} of {len(stored)} checks failed')

@@ -1,10 +1,10 @@
-"""Checks of linkmodel.py against page 01 and L2 and L5 of 02: the page's example, and traces and records worked out by hand."""
+"""Checks of linkmodel.py against page 01 and L2, L5 and L8 of 02: the page's example, and traces and records worked out by hand."""
 
 from byhand import Checks
 from linkmodel import RULES, Link, trace
 
 CHECKS = Checks('linkmodel', trace)
-SET = 'set 10 20 30 40 50 60 70 80 90'
+SET = 'set 10 20 30 40 50 60 70 80 90 100'
 
 # what: calls after SET, each with the answer due
 CASES = {
@@ -18,11 +18,11 @@ CASES = {
         req 10          | ok data-req 10 start EC2
         data EVT        | ok ind EVT
         req 10          | refused 1
-        data 3980       | ok stop EC2 ind 3980 end-req
+        data 3980       | ok stop EC2 ind 3980 end-req start LI1
         data EVT        | ok late
         data            | ok late
         req 4080        | refused 1
-        end-cnf         | ok
+        end-cnf         | ok stop LI1
         end-cnf         | refused 2''',
     'a periodic contract, PC2 last': '''
         req 6000        | ok start-req 6000 start PC1
@@ -32,7 +32,7 @@ CASES = {
         data PER        | ok ind PER
         data 20b0       | ok stop PC1 ind 20b0 start PC2
         req 14          | ok stop PC2 data-req 14 start PC3
-        data 3a00       | ok stop PC3 ind 3a00 end-req''',
+        data 3a00       | ok stop PC3 ind 3a00 end-req start LI1''',
     'no PC2 on an acknowledgement during an emergency': '''
         req 6000        | ok start-req 6000 start PC1
         start-cnf EMG   | ok ind EMG start EM1
@@ -53,7 +53,7 @@ CASES = {
         data EMG+       | ok stop EM2 ind EMG+ start EM1
         data EMG        | ok stop EM1 ind EMG start EM1
         data 2130       | ok stop DC1 ind 2130
-        data 00         | ok stop EM1 ind 00 data-req 20 end-req''',
+        data 00         | ok stop EM1 ind 00 data-req 20 end-req start LI1''',
     'the negative ack to a modify is not listed': '''
         req 3000        | ok start-req 3000 start DC1
         start-cnf EMG   | ok ind EMG start EM1
@@ -63,7 +63,7 @@ CASES = {
         req 3000        | ok start-req 3000 start DC1
         start-cnf 2800  | ok stop DC1 ind 2800 start DC2
         req 3000        | refused 1
-        data DEM        | ok stop DC2 ind DEM end-req''',
+        data DEM        | ok stop DC2 ind DEM end-req start LI1''',
     'a plain report in PENDING': '''
         req 3000        | ok start-req 3000 start DC1
         start-cnf DEM   | ok stop DC1 abort-req 73 ind abort 3
@@ -86,10 +86,10 @@ CASES = {
         req 4080        | ok data-req 4080 start EC1
         req 3000        | ok data-req 3000 start DC1
         req 6000        | ok data-req 6000 start PC1
-        req 00          | ok stop DC1 stop EC1 stop PC1 stop EM1 end-req 00
-        elapse 86400    | ok
+        req 00          | ok stop DC1 stop EC1 stop PC1 stop EM1 end-req 00 start LI1
+        elapse 99       | ok
         req 00          | refused 1
-        user-abort      | ok abort-req''',
+        user-abort      | ok stop LI1 abort-req''',
     'aborts': '''
         user-abort      | refused 1
         down            | refused 2
@@ -159,9 +159,9 @@ CASES['5 minutes sent'] = '''
         req 67e4200008101820 | ok stop PC2 data-req 63e00008101820 start PC1
         data PER+       | ok stop PC1 ind PER+ start PC2
         elapse 359      | ok
-        req 00          | ok stop PC2 end-req 00
+        req 00          | ok stop PC2 end-req 00 start LI1
         req 640420      | refused 1
-        end-cnf         | ok'''
+        end-cnf         | ok stop LI1'''
 CHANGES = (('6407b8', 'PER+', 7200), ('640000', '3880', 1), ('6000', '2a00', 300), ('6407b8', '20b0', 60))
 CASES.update({
     f'a change answered with {answer}': f"""
@@ -200,6 +200,90 @@ CASES['a change accepted and one refused in an emergency; the modify has an inte
         elapse 359      | ok
         elapse 1        | ok stop PC2 abort-req 74 ind abort 4'''
 
+# END (02, L8): LI1 is set to 100, starts with the end request, and neither late data nor refused calls move it.
+DEMAND = '''
+        req 3000        | ok start-req 3000 start DC1
+        start-cnf DEM+  | ok stop DC1 ind DEM+ end-req start LI1'''
+CANCEL_ALL = '''
+        req 6000        | ok start-req 6000 start PC1
+        start-cnf 3880  | ok stop PC1 ind 3880 start PC2
+        req 00          | ok stop PC2 end-req 00 start LI1'''
+CANCELLED = '''
+        req 4080        | ok start-req 4080 start EC1
+        start-cnf 3800  | ok stop EC1 ind 3800
+        req 10          | ok data-req 10 start EC2
+        data 3980       | ok stop EC2 ind 3980 end-req start LI1'''
+EXPIRED = 'ok stop LI1 abort-req 74 ind abort 4'
+for how, closing in (('an answer to the start', DEMAND), ('cancel-all', CANCEL_ALL), ('data', CANCELLED)):
+    CASES.update({
+        f'END after {how}: one second is left, then none': f'''{closing}
+        elapse 99       | ok
+        elapse 0        | ok
+        elapse 1        | {EXPIRED}
+        end-cnf         | refused 2
+        elapse 86400    | ok''',
+        f'END after {how}: at its end': f'''{closing}
+        elapse 100      | {EXPIRED}
+        data DEM        | refused 2
+        user-abort      | refused 1''',
+        f'END after {how}: beyond its end': f'''{closing}
+        elapse 101      | {EXPIRED}
+        req 3000        | ok start-req 3000 start DC1
+        elapse 9        | ok''',
+        f'END after {how}: a day': f'''{closing}
+        elapse 86401    | refused 4
+        elapse 86400    | {EXPIRED}''',
+        f'END after {how}: late data, refused calls': f'''{closing}
+        elapse 60       | ok
+        data EMG        | ok late
+        data            | ok late
+        data ff         | ok late
+        elapse 39       | ok
+        req 3000        | refused 1
+        req 00          | refused 1
+        start-cnf 2130  | refused 2
+        start-rej       | refused 2
+        elapse 86401    | refused 4
+        data DEM        | ok late
+        elapse 1        | {EXPIRED}''',
+        f'END after {how}: confirmed at the last second': f'''{closing}
+        elapse 99       | ok
+        end-cnf         | ok stop LI1
+        elapse 86400    | ok
+        end-cnf         | refused 2
+        req 3000        | ok start-req 3000 start DC1
+        elapse 9        | ok''',
+        f'END after {how}: LI1 loads anew': f'''{closing}
+        elapse 99       | ok
+        end-cnf         | ok stop LI1
+        req 3000        | ok start-req 3000 start DC1
+        start-cnf 2130  | ok stop DC1 ind 2130 end-req start LI1
+        elapse 99       | ok
+        elapse 1        | {EXPIRED}''',
+    })
+    CASES.update({
+        f'END after {how}: {call}': f'''{closing}
+        elapse 99       | ok
+        {call}          | ok stop LI1 {said}
+        elapse 86400    | ok'''
+        for call, said in (('user-abort', 'abort-req'), ('down', 'ind abort 0'), ('peer-abort', 'ind peer-abort'), ('air-abort 4200', 'ind abort 4'),
+                           ('air-abort', 'ind abort 6'))})
+CASES['LI1 runs in END alone'] = '''
+        req 4080        | ok start-req 4080 start EC1
+        start-cnf 3800  | ok stop EC1 ind 3800
+        elapse 86400    | ok
+        data EMG        | ok ind EMG start EM1
+        data 00         | ok stop EM1 ind 00 data-req 20
+        elapse 86400    | ok
+        user-abort      | ok abort-req'''
+CASES['an abort at the last data is no end request'] = '''
+        req 3000        | ok start-req 3000 start DC1
+        start-cnf DEM   | ok stop DC1 abort-req 73 ind abort 3
+        elapse 86400    | ok
+        req 3000        | ok start-req 3000 start DC1
+        start-cnf       | ok stop DC1 abort-req 72 ind abort 2
+        elapse 86400    | ok'''
+
 # Records: PC's state, the interval asked for, the one in force, PC2's seconds left of its 60 and those, whether there is an
 # emergency; and whether that is good by refusal 29.
 RECORDS = [
@@ -218,19 +302,20 @@ RECORDS = [
     ('ACTIVE', 0, 1, 0, False, False), ('ACTIVE', 0, 1, 60, True, False),
 ]
 
-# Whole scripts and traces: the example of 01, and lines (its script words).
+# Whole scripts and traces: the example of 01 with ten settings (02, L8), and lines (its script words).
 WHOLE = {
     'the example': (
-        b'set 60 60 60 60 60 60 60 60 60\nreq 3000\nstart-cnf 2130\nend-cnf\nelapse 86401\n',
-        b'adsc trace 1\n1 ok\n2 ok start-req 3000 start DC1\n3 ok stop DC1 ind 2130 end-req\n4 ok\n5 refused 4\nend 5\n'),
+        b'set 60 60 60 60 60 60 60 60 60 60\nreq 3000\nstart-cnf 2130\nend-cnf\nelapse 86401\n',
+        b'adsc trace 1\n1 ok\n2 ok start-req 3000 start DC1\n3 ok stop DC1 ind 2130 end-req start LI1\n4 ok stop LI1\n5 refused 4\nend 5\n'),
     'no line': (b'', b'adsc trace 1\nend 0\n'),
     'an empty line': (b'\n', b'adsc trace 1\n1 refused 17\nend 1\n'),
     'no last LF': (b'down\ndown', b'adsc trace 1\n1 refused 17\n2 refused 17\nend 2\n'),
 }
 LINES = [
-    ('set 1 1 1 1 1 1 1 1', 17), ('set 1 1 1 1 1 1 1 1 0', 3), ('set 1 1 1 1 1 1 1 1 86401', 3), ('elapse 0', 17),
-    ('set 1 1 1 1 1 1 1 4294967296 0', 17), ('set 0 1 1 1 1 1 1 1 4294967295', 3), ('set 1 1 1 1 1 1 1 1 01', 17),
-    ('set 1 1 1 1 1 1 1 1 1 ', 17), ('set 86400 1 1 1 1 1 1 1 1', None), ('set 1 1 1 1 1 1 1 1 1', 17), ('set 0 1', 17),
+    ('set 1 1 1 1 1 1 1 1 1', 17), ('set 1 1 1 1 1 1 1 1 0', 17), ('set 1 1 1 1 1 1 1 1 1 1 1', 17), ('set 1 1 1 1 1 1 1 1 1 0', 3),
+    ('set 1 1 1 1 1 1 1 1 1 86401', 3), ('set 1 1 1 1 1 1 1 1 0 1', 3), ('elapse 0', 17),
+    ('set 1 1 1 1 1 1 1 1 4294967296 0', 17), ('set 0 1 1 1 1 1 1 1 1 4294967295', 3), ('set 1 1 1 1 1 1 1 1 1 01', 17),
+    ('set 1 1 1 1 1 1 1 1 1 1 ', 17), ('set 86400 1 1 1 1 1 1 1 1 86400', None), ('set 1 1 1 1 1 1 1 1 1 1', 17), ('set 0 1', 17),
     ('elapse 4294967295', 4), ('elapse 4294967296', 17), ('elapse 00', 17), ('elapse -0', 17), ('elapse', 17),
     ('data', 2), ('data 9999999999', 2), ('data ', 17), ('data 0', 17),
     ('data 3B80', 17), ('data  00', 17), (' data 00', 17), ('data\t00', 17),
@@ -241,11 +326,22 @@ LINES = [
 
 def record(pc, asked, force, left, emergency):
     """A link with its other timers fresh."""
-    link = Link(RULES, range(10, 100, 10))
+    link = Link(RULES, range(10, 110, 10))
     link.li = 'IDLE' if pc == 'IDLE' else 'ACTIVE'
     link.state.update(PC=pc, EM='ACTIVE' if emergency else 'IDLE')
     link.asked, link.force = asked, force
     link.left = {timer: link.settings[timer] for timer in link.watched() if timer != 'PC2'} | ({'PC2': left} if left else {})
+    return link
+
+
+# Records of LI: its state, LI1's seconds left of 100; all modules are IDLE. "runs exactly in END" (02, L8).
+LI_RECORDS = [('END', 1, True), ('END', 100, True), ('END', 0, False), ('END', 101, False), ('IDLE', 0, True), ('IDLE', 1, False), ('START', 100, False),
+              ('ACTIVE', 100, False), ('ACTIVE', 0, True)]
+
+
+def li_record(li, left):
+    link = Link(RULES, range(10, 110, 10))
+    link.li, link.left = li, {'LI1': left} if left else {}
     return link
 
 
@@ -254,4 +350,6 @@ CHECKS.cases(CASES, SET)
 CHECKS.lines(LINES)
 for *numbers, wanted in RECORDS:
     CHECKS.check(f'record {numbers}', record(*numbers).good(), wanted)
+for *numbers, wanted in LI_RECORDS:
+    CHECKS.check(f'record {numbers}', li_record(*numbers).good(), wanted)
 CHECKS.end()

@@ -1,4 +1,4 @@
-"""Checks of logmodel.py against L6 of page 02: octets, checks and refusals worked out by hand, and what is stored in tests/logs."""
+"""Checks of logmodel.py against L6 and L8 of page 02: octets, checks and refusals worked out by hand, and what is stored in tests/logs."""
 
 import dataclasses
 
@@ -7,7 +7,7 @@ from byhand import Checks
 from logmodel import RULES, block_of, check, log, packed, play
 
 CHECKS = Checks('logmodel', None)
-SET = 'set 1 2 3 4 5 6 7 8 86400\n'
+SET = 'set 1 2 3 4 5 6 7 8 86400 9\n'
 
 # "1 plus the sum of each of the first 510 octets times its place counted from 1, modulo 65,521"
 SUMS = {
@@ -23,7 +23,7 @@ SUMS = {
 
 # The call, and its record.
 RECORDS = {
-    SET: '00 00000000 24 00000001 00000002 00000003 00000004 00000005 00000006 00000007 00000008 00015180',
+    SET: '00 00000000 28 00000001 00000002 00000003 00000004 00000005 00000006 00000007 00000008 00015180 00000009',
     'elapse 258\n': '03 00000102 00',
     'elapse 0\n': '03 00000000 00',
     'req 3000\n': '01 00000000 02 3000',
@@ -49,24 +49,24 @@ def records():
         script = (call if call == SET else SET + call).encode()
         payload = log(script)[6:510].rstrip(b'\0')
         spelt = bytes.fromhex(wanted).rstrip(b'\0')
-        CHECKS.check(call.strip(), payload if call == SET else payload[42:], spelt)
+        CHECKS.check(call.strip(), payload if call == SET else payload[46:], spelt)
 
 
 def packing():
     """"A record that doesn't fit opens the next block." """
-    for sizes, wanted in (((), []), ((504,), [504]), ((500, 4), [504]), ((500, 5), [500, 5]), ((42, 135, 135, 135, 58), [447, 58]), ((499, 6, 5), [499, 11])):
+    for sizes, wanted in (((), []), ((504,), [504]), ((500, 4), [504]), ((500, 5), [500, 5]), ((46, 135, 135, 135, 54), [451, 54]), ((499, 6, 5), [499, 11])):
         CHECKS.check(f'records of {sizes}', [len(payload) for payload in packed([bytes(size) for size in sizes])], wanted)
 
 
 def last_block():
     """With 2 blocks at most in place of 2^24: what would open a third is not written, nor what comes later and had room, and a third is not read."""
     few = dataclasses.replace(RULES, last=1)
-    elapses = 'elapse 0\n' * (77 + 83)
+    elapses = 'elapse 0\n' * (76 + 83)
     script = (SET + elapses + 'req 3000\nelapse 5\n').encode()
     CHECKS.check('a third block', len(log(script)), 3 * 512)
     CHECKS.check('no third block', log(script, few), log((SET + elapses).encode()))
     CHECKS.check('a third block read', ended(play(log(script), few)), 'refused 19 block 2')
-    CHECKS.check('two blocks read', ended(play(log(script)[:1024], few)), 'end 161')
+    CHECKS.check('two blocks read', ended(play(log(script)[:1024], few)), 'end 160')
 
 
 def turns():
@@ -76,6 +76,22 @@ def turns():
         CHECKS.check(f'block {number} behind 0', ended(play(setting + block_of(number, b''))), wanted)
 
 
+def settings():
+    """"a settings record in the log holds forty octets; logs with thirty-six are read with LI1 at 86,400" (L8): END then lasts a day and no longer. Other lengths are 20."""
+    closing = b'\x01\0\0\0\0\x02\x30\0' + b'\x04\0\0\0\0\x02\x21\x30'
+    for octets, before, left in ((40, 9, 8), (36, 86400, 86399)):
+        record = bytes([0, 0, 0, 0, 0, octets]) + b''.join(number.to_bytes(4, 'big') for number in (60, 60, 60, 60, 60, 60, 60, 60, 60, 9))[:octets]
+        for seconds, wanted in ((left, '4 ok'), (before, '4 ok stop LI1 abort-req 74 ind abort 4')):
+            text = play(block_of(0, record + closing + b'\x03' + seconds.to_bytes(4, 'big') + b'\0')).decode().split('\n')
+            CHECKS.check(f'{octets} octets, {seconds} seconds in END', text[3:], ['3 ok stop DC1 ind 2130 end-req start LI1', wanted, 'end 4', ''])
+    for octets in (0, 4, 32, 35, 37, 38, 39, 41, 44, 80):
+        record = bytes([0, 0, 0, 0, 0, octets]) + (60).to_bytes(4, 'big') * 20
+        CHECKS.check(f'{octets} octets of settings', ended(play(block_of(0, record[:6 + octets]))), 'refused 20 block 0')
+    for number, wanted in ((0, 'refused 20 block 0'), (1, 'end 1'), (86400, 'end 1'), (86401, 'refused 20 block 0')):
+        record = bytes([0, 0, 0, 0, 0, 40]) + (60).to_bytes(4, 'big') * 9 + number.to_bytes(4, 'big')
+        CHECKS.check(f'LI1 of {number}', ended(play(block_of(0, record))), wanted)
+
+
 def stored():
     for name, octets, due, script in logs.stored():
         CHECKS.check(f'{name}.play', play(octets), due)
@@ -83,6 +99,6 @@ def stored():
             CHECKS.check(f'{name}.log', log(script), octets)
 
 
-for part in (sums, records, packing, last_block, turns, stored):
+for part in (sums, records, packing, last_block, turns, settings, stored):
     part()
 CHECKS.end()

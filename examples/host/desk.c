@@ -1,5 +1,6 @@
 /* What a desk shows of a periodic contract: the interval, when the next report is due, and how long the link waits for it. A report every two hours is asked
- * for and agreed; it comes 30 seconds late. A report every ten minutes is asked for then and refused, and no further one comes. */
+ * for and agreed; it comes 30 seconds late. A report every ten minutes is asked for then and refused, and no further one comes. Asked anew, the aircraft refuses
+ * at once, so the link is closed, and the end is not confirmed. */
 #include <inttypes.h>
 #include <stdio.h>
 #include "adsc.h"
@@ -17,6 +18,8 @@ static void show(uint8_t refusal, const char *what)
         printf(" interval %" PRIu32 " s,", force);
     if (asked)
         printf(" %" PRIu32 " s asked for", asked);
+    else if (adsc_link_left(link, ADSC_LI1))
+        printf(" closing, %" PRIu32 " s until the link ends", adsc_link_left(link, ADSC_LI1));
     else if (left == 0)
         printf(" no report awaited");                                   /* no contract, a cancel, or an emergency */
     else if (due > 0)
@@ -39,7 +42,7 @@ static uint8_t pass(uint32_t seconds)
 
 int main(void)
 {
-    uint32_t settings[ADSC_TIMERS] = {360, 210, 360, 360, 360, 240, 360, 240, 360};     /* PC2's is the grace: four minutes */
+    uint32_t settings[ADSC_TIMERS] = {360, 210, 360, 360, 360, 240, 360, 240, 360, 360};     /* PC2's is the grace: four minutes */
     uint8_t ack[] = {0x38, 0x80}, no[] = {0x20, 0xb0}, report[] = {0x30, 0, 0, 0, 0, 0, 0, 0, 1, 0x2c, 0, 0, 0, 0};
     show(adsc_open(settings, ADSC_TIMERS, link, sizeof link), "opened");
     show(ask(120), "asked");
@@ -51,6 +54,10 @@ int main(void)
     show(ask(10), "asked");
     show(adsc_data(link, sizeof link, no, sizeof no, answer, sizeof answer), "refused");
     show(pass(7439), "silence");
+    show(pass(1), "1 s");
+    show(ask(10), "asked");
+    show(adsc_start_confirm(link, sizeof link, no, sizeof no, answer, sizeof answer), "refused");
+    show(pass(359), "359 s");
     show(pass(1), "1 s");
     return 0;
 }

@@ -159,7 +159,7 @@ static void print_octets(const uint8_t *octets, size_t n)
 
 static void print_timer(uint8_t action)
 {
-    static const char *const names[ADSC_TIMERS] = {"DC1", "DC2", "EC1", "EC2", "PC1", "PC2", "PC3", "EM1", "EM2"};
+    static const char *const names[ADSC_TIMERS] = {"DC1", "DC2", "EC1", "EC2", "PC1", "PC2", "PC3", "EM1", "EM2", "LI1"};
     bool starts = action >= ADSC_START_TIMER;
     printf(" %s %s", starts ? "start" : "stop", names[action - (starts ? ADSC_START_TIMER : ADSC_STOP_TIMER)]);
 }

@@ -34,7 +34,7 @@ static uint8_t record(uint8_t kind, uint32_t seconds, const uint8_t *data, size_
 
 static bool start(void)
 {
-    uint32_t settings[ADSC_TIMERS] = {360, 210, 360, 360, 360, 240, 360, 240, 360};
+    uint32_t settings[ADSC_TIMERS] = {360, 210, 360, 360, 360, 240, 360, 240, 360, 360};
     uint32_t contract[ADSC_GROUND_NUMBERS] = {[ADSC_G_KIND] = ADSC_PERIODIC_CONTRACT, [ADSC_G_SCALE] = ADSC_MINUTES, [ADSC_G_INTERVAL] = 1};
     uint8_t ack[] = {0x38, 0x80}, pdu[ADSC_PDU_OCTETS];
     size_t written;

@@ -17,7 +17,7 @@ int main(void)
 {
     /* from here */
     uint8_t link[ADSC_LINK_OCTETS], answer[ADSC_ANSWER_OCTETS];
-    uint32_t settings[ADSC_TIMERS] = {360, 210, 360, 360, 360, 240, 360, 240, 360};   /* seconds: DC1 DC2 EC1 EC2 PC1 PC2 PC3 EM1 EM2 */
+    uint32_t settings[ADSC_TIMERS] = {360, 210, 360, 360, 360, 240, 360, 240, 360, 360};   /* seconds: DC1 DC2 EC1 EC2 PC1 PC2 PC3 EM1 EM2 LI1 */
     uint32_t contract[ADSC_GROUND_NUMBERS] = {[ADSC_G_KIND] = ADSC_PERIODIC_CONTRACT, [ADSC_G_SCALE] = ADSC_MINUTES, [ADSC_G_INTERVAL] = 1};
     uint8_t ack[] = {0x38, 0x80}, report[] = {0x30, 0, 0, 0, 0, 0, 0, 0, 1, 0x2c, 0, 0, 0, 0};
     act(adsc_open(settings, ADSC_TIMERS, link, sizeof link), NULL);

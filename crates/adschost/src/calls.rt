@@ -8,7 +8,7 @@ ghost use Rattle.host_numbers.specs.UplinkNumbers.{groundAt};
 ghost use Rattle.ground.specs.declared.call.Call.the-variants.{Request, UserAbort, Elapse, StartConfirm, StartRejected, Data, EndConfirm, PeerAbort, AirAbort, Down};
 ghost use Rattle.host_record.specs.Hosting.{hosted, Hosts, made, Makes};
 
-// A new link from nine settings in watch order.
+// A new link from ten settings in watch order.
 #[no_mangle]
 pub extern "C" fn adsc_open(settings: &[u32], link: &mut [u8]) -> u8
     ensures { λ r. ⌜ Makes (made (now (settings .entry)) (now (link .entry))) r (now (link .exit)) ⌝ }

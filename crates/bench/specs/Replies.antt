@@ -29,7 +29,7 @@ readySetup l = record { ready = true; link = l }
 unfoldable pub answerReply : Answer → List ℕ → Reply Setup
 answerReply a s = record { box = readySetup (a .link); text = answerText (a .said) s }
 
--- `set` and nine settings; 3 leaves the box without a link
+-- `set` and ten settings; 3 leaves the box without a link
 unfoldable pub openReply : Setup → Opened → Reply Setup
 openReply b o = pick (eqb (o .refusal) 0) (record { box = readySetup (o .link); text = ascii "ok" }) (refusedReply b (o .refusal))
 

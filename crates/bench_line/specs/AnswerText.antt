@@ -14,7 +14,7 @@ groundNames =
     names
     ([] ∷ ascii " start-req" ∷ ascii " data-req" ∷ ascii " end-req" ∷ ascii " abort-req" ∷ ascii " ind" ∷ ascii " ind abort " ∷ ascii " ind peer-abort"
     ∷ ascii " late" ∷ [])
-    (ascii "DC1" ∷ ascii "DC2" ∷ ascii "EC1" ∷ ascii "EC2" ∷ ascii "PC1" ∷ ascii "PC2" ∷ ascii "PC3" ∷ ascii "EM1" ∷ ascii "EM2" ∷ [])
+    (ascii "DC1" ∷ ascii "DC2" ∷ ascii "EC1" ∷ ascii "EC2" ∷ ascii "PC1" ∷ ascii "PC2" ∷ ascii "PC3" ∷ ascii "EM1" ∷ ascii "EM2" ∷ ascii "LI1" ∷ [])
 
 abbrev pub briefOf : Said → Brief
 briefOf said = record { refusal = said .refusal; reason = said .reason; acts = said .acts }

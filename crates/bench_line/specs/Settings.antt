@@ -1,4 +1,4 @@
--- The settings of a `set` line (01, "Script words"): "`set` (nine settings in watch order)".
+-- The settings of a `set` line (01, "Script words"): "`set` (nine settings in watch order)"; and 02, L8: "The opening script line takes ten numbers".
 use mathlib.Core.Bool.{false}
 use mathlib.Core.List.{List}
 use Prim.Native.Nat.{ℕ, zero, suc, _+_}

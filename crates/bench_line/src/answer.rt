@@ -20,8 +20,8 @@ pub fn put_answer(out: &mut [u8], at: usize, said: Said, came: &[u8]) -> usize
         at,
         b" start-req data-req end-req abort-req ind ind abort  ind peer-abort late",
         &[0, 0, 10, 19, 27, 37, 41, 52, 67, 72],
-        b"DC1DC2EC1EC2PC1PC2PC3EM1EM2",
-        &[0, 3, 6, 9, 12, 15, 18, 21, 24, 27],
+        b"DC1DC2EC1EC2PC1PC2PC3EM1EM2LI1",
+        &[0, 3, 6, 9, 12, 15, 18, 21, 24, 27, 30],
         Brief {
             refusal: said.refusal,
             reason: said.reason,

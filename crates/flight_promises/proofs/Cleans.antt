@@ -6,6 +6,7 @@ use Prim.Native.Nat.{ℕ, _≤_}
 use native.Mathlib.Omega.{arith}
 use lib.Dec.{eqb}
 use lib.ListN.{length, take}
+use Rattle.link.specs.Names.{timers}
 use Rattle.link.specs.Acts.{acts, pushedAll}
 use Rattle.link.specs.Clock.{stopsOf}
 use Rattle.link.specs.Step.{added, stopped, stoppedThen, abortedAll}
@@ -35,14 +36,14 @@ module _ (f : ℕ → List ℕ → Bool) where
   pub clean-abort : (left s : List ℕ) (n : ℕ) → eqb n 2 ≡ false → length s ≤ 115 → f 4 s ≡ true → Clean f n (abortedAll left .acts) s
   unfolding stopped added pushedAll
   clean-abort left s n r h g =
-      clean r h (sym (pushed-append (acts []) (stopsOf 9 left) (4 ∷ 6 ∷ [])))
-      (after f (stops-stay f 9 left s) (after f (goes-one f 4 s refl g) (stays f true 6 [] (omega arith))))
+      clean r h (sym (pushed-append (acts []) (stopsOf timers left) (4 ∷ 6 ∷ [])))
+      (after f (stops-stay f timers left s) (after f (goes-one f 4 s refl g) (stays f true 6 [] (omega arith))))
 
   -- everything stops, with one entry
   pub clean-close : (left : List ℕ) (entry reason : ℕ) → eqb reason 2 ≡ false → Sends f (entry ∷ []) [] [] → Clean f reason (stoppedThen entry left .acts) []
   unfolding stopped added pushedAll
   clean-close left entry reason r g =
-      clean r no-octets (sym (pushed-append (acts []) (stopsOf 9 left) (entry ∷ []))) (after f (stops-stay f 9 left []) g)
+      clean r no-octets (sym (pushed-append (acts []) (stopsOf timers left) (entry ∷ []))) (after f (stops-stay f timers left []) g)
 
   -- an abort that is shown, and the peer user's
   pub shown : Sends f (6 ∷ []) [] []

@@ -11,6 +11,7 @@ use lib.ListN.{length, take, getD, replicate, length-append}
 use lib.Seq.{take-all, take-at, take-append-seam}
 use Rattle.text.specs.Text.{pick, both}
 use Rattle.text.proofs.Laws.{le-or-lt}
+use Rattle.link.specs.Names.{timers}
 use Rattle.link.specs.Acts.{acts, pushed, pushedAll, one}
 use Rattle.link.specs.Clock.{stopsOf}
 use Rattle.link.specs.Step.{actsOf}
@@ -106,8 +107,8 @@ module _ (f : ℕ → List ℕ → Bool) where
   pub move-goes : (m : Move) (entry : ℕ) (s t : List ℕ) → Sends f (one (m .send) entry) s t → Sends f (actsOf m entry) s t
   unfolding actsOf
   move-goes m entry s t h =
-      let a = after (stays (ltb (m .stop) 9) (16 + m .stop) s (omega arith)) (stays (m .ind) 5 s (omega arith)) in
-      after (after a h) (stays (ltb (m .start) 9) (32 + m .start) t (omega arith))
+      let a = after (stays (ltb (m .stop) timers) (16 + m .stop) s (omega arith)) (stays (m .ind) 5 s (omega arith)) in
+      after (after a h) (stays (ltb (m .start) timers) (32 + m .start) t (omega arith))
 
 -- no list has more than 8 entries
 pushed-full : (l : List ℕ) (x : ℕ) → 8 ≤ length l → pushed (acts l) x ≡ acts l

@@ -22,6 +22,7 @@ use Rattle.link.specs.Step.{actsOf, performed, begun, added, stopped}
 use Rattle.link.specs.Watch.{idle, liIs}
 use borrow.Author.Tests.{not-true}
 use Rattle.link.proofs.Laws.{no-true, eq-T, pick-case, allowed-case, pushed-append}
+use Rattle.ground_tables.specs.Moves.{liEnd, liOver}
 use Rattle.ground_answer.specs.Record.{good, moveAt, turned, went}
 use Rattle.ground_answer.specs.declared.record.Link.{Link}
 use Rattle.ground_answer.specs.Events.{cancel-all, requestEvent, asksFor, airEvent}
@@ -80,8 +81,8 @@ cancels-clean l =
     let s = encode groundC CancelAll in
     rw (goes-out CancelAll may-cancel)
     (stands
-    (clean upGoes refl (up-short CancelAll) (sym (pushed-append (acts []) (stopsOf 9 (l .left)) (3 ∷ [])))
-    (after upGoes (stops-stay upGoes 9 (l .left) s) (goes-one upGoes 3 s refl (ends-well CancelAll may-cancel refl)))))
+    (clean upGoes refl (up-short CancelAll) (sym (pushed-append (acts []) (stopsOf timers (l .left)) (actsOf liEnd 3)))
+    (after upGoes (stops-stay upGoes timers (l .left) s) (move-goes upGoes liEnd 3 s [] (goes-one upGoes 3 s refl (ends-well CancelAll may-cancel refl))))))
 
 -- what a move says
 went-acts : (l : Link) (k e n entry : ℕ) → went l k e n entry .acts ≡ pushedAll (acts []) (actsOf (moveAt l k e) entry)
@@ -146,8 +147,8 @@ passes-clean l e =
     (pick-case CleanAnswer (idle (went l 2 e 0 2 .at))
     (λ i. stands
     (clean upGoes refl (ack-short (m .send))
-    (ap (λ (a : Acts). pushedAll a (3 ∷ [])) (went-acts l 2 e 0 2) ∙ sym (pushed-append (acts []) (actsOf m 2) (3 ∷ [])))
-    (after upGoes g (goes-one upGoes 3 [] refl end-alone))))
+    (ap (λ (a : Acts). pushedAll a (actsOf liEnd 3)) (went-acts l 2 e 0 2) ∙ sym (pushed-append (acts []) (actsOf m 2) (actsOf liEnd 3)))
+    (after upGoes g (move-goes upGoes liEnd 3 [] [] (goes-one upGoes 3 [] refl end-alone)))))
     (λ i. stands (clean upGoes refl (ack-short (m .send)) (went-acts l 2 e 0 2) g))))
     (λ f. aborts-clean l 3 refl refl)
 
@@ -178,7 +179,7 @@ late-clean l = stands (clean upGoes refl no-octets refl late-goes)
 
 over-clean : (l : Link) → CleanAnswer (over l)
 unfolding over performed begun pushedAll actsOf
-over-clean l = stands (clean-none upGoes)
+over-clean l = stands (clean upGoes refl no-octets refl (move-goes upGoes liOver 0 [] [] (nothing upGoes [])))
 
 waits-clean : (l : Link) (n : ℕ) → CleanAnswer (waited l n)
 unfolding waited begun

@@ -1,14 +1,14 @@
 -- No action list is cut: at most four timers run, so the stops of all of them and what follows have room. Assumes nothing.
 use mathlib.Core.Path.{_≡_}
 use mathlib.Core.List.{[], _∷_, _++_}
-use Prim.Native.Nat.{ℕ}
+use Prim.Native.Nat.{ℕ, _+_}
 use lib.Dec.{lit≤}
-use Rattle.link.specs.Names.{timers}
+use Rattle.link.specs.Names.{timers, START}
 use Rattle.link.specs.Acts.{acts, pushedAll}
 use Rattle.link.specs.Clock.{stopsOf}
 use Rattle.link.specs.Step.{actsOf}
 use Rattle.sides.proofs.Ways.{stopped-said, then-said, abort-said}
-use Rattle.ground_tables.specs.Names.{LI-ACTIVE}
+use Rattle.ground_tables.specs.Names.{LI1, LI-ACTIVE}
 use Rattle.ground_tables.specs.Moves.{liEnd}
 use Rattle.ground_tables.proofs.Fitting.{ground-fits}
 use Rattle.ground_tables.specs.Tables.{groundTables}
@@ -28,7 +28,7 @@ pub abort-list : (l : Link) (n : ℕ) → Fine l → aborted l n .said .acts ≡
 unfolding aborted
 abort-list l n f = abort-said groundTables ground-fits (view l) (fine-sound l f)
 
-pub cancel-list : (l : Link) → Fine l → cancelled l .said .acts ≡ acts (stopsOf timers (l .left) ++ (3 ∷ []))
+pub cancel-list : (l : Link) → Fine l → cancelled l .said .acts ≡ acts (stopsOf timers (l .left) ++ (END-REQUEST ∷ (START + LI1) ∷ []))
 unfolding cancelled pushedAll actsOf
 cancel-list l f =
     stopped-said groundTables ground-fits (view l) (fine-sound l f) LI-ACTIVE (record { move = liEnd; send = END-REQUEST; most = loads (cleared l) } ∷ []) [] (lit≤ tt)

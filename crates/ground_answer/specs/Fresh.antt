@@ -1,4 +1,4 @@
--- A new link from nine settings in watch order.
+-- A new link from ten settings in watch order.
 use mathlib.Core.List.{List}
 use Prim.Native.Nat.{ℕ}
 use lib.ListN.{replicate}

@@ -22,7 +22,7 @@ pub fn idle_link(setting: [u32; TIMERS]) -> Link
     make(setting, [0; TIMERS], [0; 5], no_intervals())
 }
 
-// A link from the nine settings in watch order, each 1..86,400 seconds.
+// A link from the ten settings in watch order, each 1..86,400 seconds.
 pub fn open(setting: [u32; TIMERS]) -> Opened
     ensures { λ r. ⌜ r ≡ opened setting ⌝ }
 {

@@ -7,7 +7,7 @@ use Rattle.link.specs.Tests.{pick}
 use Rattle.link.specs.Names.{no-timer, DC, EC, PC, EM, LI, IDLE}
 use Rattle.link.specs.Moves.{Row, row, look, to, stop, ind, send, start, unlisted}
 use Rattle.link.specs.declared.moves.Move.{Move}
-use Rattle.ground_tables.specs.Names.{DC-PENDING, DC-ACTIVE, START-PENDING, PENDING, ACTIVE, CANCEL, EM-ACTIVE, MODIFY, DC1, DC2, EC1, EC2, PC1, PC2, PC3, EM1, EM2, LI-IDLE, LI-END, request, dc-report-ack, dc-report, dc-negative, dc-noncompliance, cancel, report-ack, report, positive, noncompliance, cancelled, negative, modify, em-report, em-report-ack, em-positive, em-cancel}
+use Rattle.ground_tables.specs.Names.{DC-PENDING, DC-ACTIVE, START-PENDING, PENDING, ACTIVE, CANCEL, EM-ACTIVE, MODIFY, DC1, DC2, EC1, EC2, PC1, PC2, PC3, EM1, EM2, LI1, LI-IDLE, LI-END, request, dc-report-ack, dc-report, dc-negative, dc-noncompliance, cancel, report-ack, report, positive, noncompliance, cancelled, negative, modify, em-report, em-report-ack, em-positive, em-cancel}
 
 -- "IDLE: request, send, start DC1, PENDING. PENDING: report with ack, stop DC1, report ind, IDLE; negative ack (demand), stop, confirm, IDLE; demand
 -- noncompliance, stop, confirm, start DC2, ACTIVE. ACTIVE: report without ack, stop DC2, ind, IDLE."
@@ -81,9 +81,9 @@ pc2Active at = pick (eqb (getD at PC 0) ACTIVE) PC2 no-timer
 unfoldable pub groundRows : List ℕ → List (List Row)
 groundRows at = dcRows ∷ contractRows EC EC1 EC2 no-timer ∷ contractRows PC PC1 PC3 (pc2Quiet at) ∷ emRows (pc2Active at) ∷ []
 
--- LI's own moves: the end request; the end confirm
+-- LI's own moves, with LI1 of 02, L8: "it starts with every end request, stops on end confirm or any abort". The end request; the end confirm
 abbrev pub liEnd : Move
-liEnd = send (to LI LI-END)
+liEnd = send (start LI1 (to LI LI-END))
 
 abbrev pub liOver : Move
-liOver = to LI LI-IDLE
+liOver = stop LI1 (to LI LI-IDLE)

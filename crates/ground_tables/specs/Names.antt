@@ -67,6 +67,9 @@ EM1 = 7
 abbrev pub EM2 : ℕ
 EM2 = 8
 
+abbrev pub LI1 : ℕ
+LI1 = 9
+
 -- events of a module, requests below 4 and downlink data from 4 on. DC: request; report with ack, plain report, negative ack, noncompliance
 abbrev pub request : ℕ
 request = 0

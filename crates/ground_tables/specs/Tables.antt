@@ -9,7 +9,7 @@ use Rattle.link.specs.Moves.{liTo}
 use Rattle.link.specs.Watch.{idle, liIs}
 use Rattle.link.specs.declared.moves.Move.{Move}
 use Rattle.sides.specs.Tables.{Tables}
-use Rattle.ground_tables.specs.Names.{DC-ACTIVE, CANCEL, MODIFY, LI-IDLE, LI-START, LI-ACTIVE, LI-END, DC1, DC2, EC1, EC2, PC1, PC2, PC3, EM1, EM2}
+use Rattle.ground_tables.specs.Names.{DC-ACTIVE, CANCEL, MODIFY, LI-IDLE, LI-START, LI-ACTIVE, LI-END, DC1, DC2, EC1, EC2, PC1, PC2, PC3, EM1, EM2, LI1}
 use Rattle.ground_tables.specs.Moves.{groundRows, liEnd, liOver}
 use Rattle.ground_tables.specs.Watch.{groundWatch}
 use Rattle.ground_tables.specs.Intervals.{intervalRow}
@@ -47,6 +47,6 @@ groundTables =
           ∷ [];
       rests = λ li. either (eqb li LI-IDLE) (eqb li LI-ACTIVE);
       changer = λ t. pick (eqb t PC2) PC 5;
-      nearby = (DC1 ∷ DC2 ∷ []) ∷ (EC1 ∷ EC2 ∷ []) ∷ (PC1 ∷ PC2 ∷ PC3 ∷ []) ∷ (EM1 ∷ EM2 ∷ PC2 ∷ []) ∷ [] ∷ [];
+      nearby = (DC1 ∷ DC2 ∷ []) ∷ (EC1 ∷ EC2 ∷ []) ∷ (PC1 ∷ PC2 ∷ PC3 ∷ []) ∷ (EM1 ∷ EM2 ∷ PC2 ∷ []) ∷ (LI1 ∷ []) ∷ [];
       also = groundAlso;
     }

@@ -110,15 +110,15 @@ pub fn decide(at: [u8; 5], event: u8) -> Move
     }
 }
 
-// LI's own moves: the end request, the end confirm.
+// LI's own moves: the end request starts LI1, the end confirm stops it.
 pub fn li_end() -> Move
     ensures { λ r. ⌜ r ≡ liEnd ⌝ }
 {
-    go(LI, LI_END, NO_TIMER, false, true, NO_TIMER)
+    go(LI, LI_END, NO_TIMER, false, true, LI1)
 }
 
 pub fn li_over() -> Move
     ensures { λ r. ⌜ r ≡ liOver ⌝ }
 {
-    go(LI, LI_IDLE, NO_TIMER, false, false, NO_TIMER)
+    go(LI, LI_IDLE, LI1, false, false, NO_TIMER)
 }

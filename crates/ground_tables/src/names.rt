@@ -47,6 +47,8 @@ pub const EM1: u8 = 7;
 
 pub const EM2: u8 = 8;
 
+pub const LI1: u8 = 9;
+
 // events of DC
 pub const REQUEST: u8 = 0;
 

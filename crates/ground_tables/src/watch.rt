@@ -6,7 +6,7 @@ ghost use mathlib.Core.Path.{_≡_};
 ghost use Rattle.ground_tables.specs.Watch.{groundWatch};
 
 // The module of each timer, the first and the last of its states, and the last state of EM at which it runs.
-const MODULE: [u8; TIMERS] = [DC, DC, EC, EC, PC, PC, PC, EM, EM];
+const MODULE: [u8; TIMERS] = [DC, DC, EC, EC, PC, PC, PC, EM, EM, LI];
 
 const FIRST: [u8; TIMERS] = [
     DC_PENDING,
@@ -18,6 +18,7 @@ const FIRST: [u8; TIMERS] = [
     CANCEL,
     EM_ACTIVE,
     MODIFY,
+    LI_END,
 ];
 
 const LAST: [u8; TIMERS] = [
@@ -30,6 +31,7 @@ const LAST: [u8; TIMERS] = [
     CANCEL,
     EM_ACTIVE,
     MODIFY,
+    LI_END,
 ];
 
 const EM_LAST: [u8; TIMERS] = [
@@ -39,6 +41,7 @@ const EM_LAST: [u8; TIMERS] = [
     MODIFY,
     MODIFY,
     IDLE,
+    MODIFY,
     MODIFY,
     MODIFY,
     MODIFY,

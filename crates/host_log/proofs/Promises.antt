@@ -16,7 +16,7 @@ use Rattle.ground_answer.specs.Record.{fresh, good}
 use Rattle.ground_answer.specs.declared.record.Link.{Link}
 use Rattle.ground.proofs.Keeps.{Fine}
 use Rattle.bench.specs.Replies.{readySetup}
-use Rattle.host_record.specs.RecordLayout.{linkOf, recordOctets}
+use Rattle.host_record.specs.RecordLayout.{RECORD-OCTETS, linkOf, recordOctets}
 use Rattle.host_record.specs.laws.Back.{record-back}
 use Rattle.host_record.proofs.Puts.{length-record}
 use Rattle.log.specs.Block.{BLOCK, ROOM, BLOCKS, blockOf, payload, allZero, judged}
@@ -69,8 +69,8 @@ play-leaves s n b =
     let p = playedIn (boxIn s) (playBlock (boxIn s) n b) in
     left-there (either (boxGood s) (either (eqb (p .refusal) 0) (done (boxOut (p .setup) s)) (stays (p .refusal))) (stays BAD-RECORD))
 
--- ---- "A link record of 85 zeros is one that has no settings yet" (include/adsc.h)
-pub zeros-blank : (boxGood (zeros 85) ≡ true) × (boxIn (zeros 85) ≡ blank)
+-- ---- "A link record of 93 zeros is one that has no settings yet" (include/adsc.h)
+pub zeros-blank : (boxGood (zeros RECORD-OCTETS) ≡ true) × (boxIn (zeros RECORD-OCTETS) ≡ blank)
 unfolding boxGood boxIn linkOf fresh restAt
 zeros-blank = (refl, refl)
 
@@ -109,8 +109,8 @@ module _ (n : ℕ) (b : List ℕ) (rs : List Rec) (h : n < BLOCKS) (l : length b
       → readBlock formOne m (set (hostBlock n b rs) i v) ≡ bad CHECK-WRONG
   host-changed m i v o = changed-refused n m (hostBlock n b rs) i v o (ap (judged 0 n) in-form ∙ judged-good 0 n (joined formOne (map noted rs)) k h)
 
--- ---- a block on the record of a good link is the block on that link, and on 85 zeros it is on a box without settings
-zeros-bad : good (linkOf (zeros 85)) ≡ false
+-- ---- a block on the record of a good link is the block on that link, and on zeros it is on a box without settings
+zeros-bad : good (linkOf (zeros RECORD-OCTETS)) ≡ false
 unfolding good settingOk linkOf
 zeros-bad = refl
 
@@ -122,7 +122,7 @@ module _ (l : Link) (f : Fine l) where
       go true t = refl
       go false t = absurd t
 
-  long : length (recordOctets l) ≡ 85
+  long : length (recordOctets l) ≡ RECORD-OCTETS
   long = length-record l (f .lefts) (f .settings)
 
   back : linkOf (recordOctets l) ≡ l
@@ -134,14 +134,14 @@ module _ (l : Link) (f : Fine l) where
       go : (c : Bool) → allZero (recordOctets l) ≡ c → c ≡ false
       go false e = refl
       go true e =
-          let z : recordOctets l ≡ zeros 85 = all-zeros (recordOctets l) e ∙ ap zeros long in
+          let z : recordOctets l ≡ zeros RECORD-OCTETS = all-zeros (recordOctets l) e ∙ ap zeros long in
           let b : good l ≡ false = ap good (sym back) ∙ ap (λ (s : List ℕ). good (linkOf s)) z ∙ zeros-bad in
           sym good-is ∙ b
 
   pub host-plays : (n : ℕ) (b : List ℕ) → blockPlayed (recordOctets l) n b ≡ playedOut (playedIn (readySetup l) (playBlock (readySetup l) n b)) (recordOctets l)
   unfolding blockPlayed boxGood boxIn
-  host-plays n b = rw (not-zeros, back, eq-eqb (length (recordOctets l)) 85 long, good-is)
+  host-plays n b = rw (not-zeros, back, eq-eqb (length (recordOctets l)) RECORD-OCTETS long, good-is)
 
-pub host-starts : (n : ℕ) (b : List ℕ) → blockPlayed (zeros 85) n b ≡ playedOut (playedIn blank (playBlock blank n b)) (zeros 85)
+pub host-starts : (n : ℕ) (b : List ℕ) → blockPlayed (zeros RECORD-OCTETS) n b ≡ playedOut (playedIn blank (playBlock blank n b)) (zeros RECORD-OCTETS)
 unfolding blockPlayed
 host-starts n b = rw (zeros-blank .0, zeros-blank .1)

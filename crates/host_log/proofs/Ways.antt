@@ -31,7 +31,7 @@ use Rattle.log.specs.declared.Appended.{Appended}
 use Rattle.log.specs.declared.Appended.the-variants.{Wrote, Full, Ended, Refused}
 use Rattle.log.specs.declared.Finished.{Finished}
 use Rattle.log.specs.declared.Finished.the-variants.{Next, Last, Unfit}
-use Rattle.log_play.specs.Steps.{fieldIn, isSettings}
+use Rattle.log_play.specs.Steps.{fieldIn, SETTINGS-OCTETS}
 use Rattle.log_play.specs.Plays.{playBlock, playedIn}
 use Rattle.log_play.specs.declared.block.Played.{Played}
 use Rattle.host_log.specs.Recording.{Keeps, emptyBlock, blockOpened, tapeIn, isOpen, readable, fieldsGood, recordPut, blockAppended, blockFinished}
@@ -98,11 +98,11 @@ module _ (n : ℕ) (b : List ℕ) where
 -- ---- the fields of a record
 module _ (k s : ℕ) (d : List ℕ) where
   pub settings-timed : k ≡ 0 → (s ≡ 0 → ⊥) → false ≡ fieldsGood (rec k s d)
-  unfolding fieldsGood isSettings
+  unfolding fieldsGood
   settings-timed e h = rw (eq-eqb k 0 e, ne-eqb s 0 h)
 
-  pub settings-sized : k ≡ 0 → s ≡ 0 → (c : Bool) → c ≡ eqb (length d) 36 → c ≡ fieldsGood (rec k s d)
-  unfolding fieldsGood isSettings
+  pub settings-sized : k ≡ 0 → s ≡ 0 → (c : Bool) → c ≡ eqb (length d) SETTINGS-OCTETS → c ≡ fieldsGood (rec k s d)
+  unfolding fieldsGood
   settings-sized e h c f = rw (eq-eqb k 0 e, eq-eqb s 0 h, ← f)
 
   pub held-fields : (shape : ℕ) (h : Held) → (k ≡ 0 → ⊥) → shape ≡ getD (shapesOf groundWords) (k + 1) 0 → heldIn h d ≡ fieldIn shape s d → readable (heldIn h d) ≡ fieldsGood (rec k s d)

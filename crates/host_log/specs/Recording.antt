@@ -7,7 +7,7 @@ use lib.Dec.{eqb, leb, ltb}
 use lib.ListN.{length, getD}
 use lib.Seq.{sets}
 use Rattle.refusals.specs.Refusals.{OUT-OF-RANGE, NO-ROOM, NOT-READABLE}
-use Rattle.link.specs.Tests.{pick}
+use Rattle.link.specs.Tests.{both, pick}
 use Rattle.octets.specs.Octets.{quad, pair, wordAt, pairAt, zeros}
 use Rattle.script.specs.Fields.{Field, garbled, holds, counts}
 use Rattle.script.specs.Lines.{shapesOf}
@@ -16,7 +16,7 @@ use Rattle.log.specs.Block.{BLOCK, ROOM, BLOCKS, blockOf, payload}
 use Rattle.log.specs.Record.{Rec, noted, recOctets}
 use Rattle.log.specs.Tapes.{tape, fitting}
 use Rattle.log.specs.declared.Tape.{Tape}
-use Rattle.log_play.specs.Steps.{fieldIn, wordOf, isSettings}
+use Rattle.log_play.specs.Steps.{fieldIn, wordOf, SETTINGS-OCTETS}
 
 -- the number that a call gives, and the block after it
 pub record Kept : Type 0 where
@@ -50,10 +50,10 @@ readable garbled = false
 readable (holds s) = true
 readable (counts n) = true
 
--- "a field its call doesn't use" (L6), settings that are not of 36 octets, or no call's kind are 5 for a record that is to be written
+-- "a field its call doesn't use" (L6), settings that are not of forty octets (L8), or no call's kind are 5 for a record that is to be written
 unfoldable pub fieldsGood : Rec → Bool
 fieldsGood r =
-    pick (eqb (r .kind) 0) (isSettings r)
+    pick (eqb (r .kind) 0) (both (eqb (r .seconds) 0) (eqb (length (r .octets)) SETTINGS-OCTETS))
     (readable (fieldIn (getD (shapesOf groundWords) (wordOf (r .kind)) 0) (r .seconds) (r .octets)))
 
 -- the record behind the payload, and the length with it; the check stays until the block is finished

@@ -1,4 +1,4 @@
-// A block of the log played on a record of 85 octets.
+// A block of the log played on a record of 93 octets.
 use bench::reply::Setup;
 use ground_answer::record::is_good;
 use host_record::record::RECORD;

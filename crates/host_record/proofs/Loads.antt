@@ -5,6 +5,7 @@ use mathlib.Core.List.{List, [], _∷_}
 use native.Mathlib.Omega.{arith}
 use lib.ListN.{length, getD, set, take, drop, replicate}
 use lib.Seq.{sets, getD-take, getD-drop}
+use Rattle.link.specs.Names.{timers}
 use Rattle.octets.specs.Octets.{wordAt, words}
 use Rattle.host_record.specs.RecordLayout.{RECORD-OCTETS, linkOf}
 
@@ -45,8 +46,8 @@ module _ (s t : List ℕ) (f : (k : ℕ) → k < RECORD-OCTETS → getD t k 0 �
   link-same : linkOf t ≡ linkOf s
   unfolding linkOf
   link-same =
-      rw (words-same 0 9 (omega arith), words-same 36 9 (omega arith), word-same 77 (omega arith), word-same 81 (omega arith))
-      (rw (f 72 (omega arith), f 73 (omega arith), f 74 (omega arith), f 75 (omega arith), f 76 (omega arith)))
+      rw (words-same 0 timers (omega arith), words-same 40 timers (omega arith), word-same 85 (omega arith), word-same 89 (omega arith))
+      (rw (f 80 (omega arith), f 81 (omega arith), f 82 (omega arith), f 83 (omega arith), f 84 (omega arith)))
 
 pub filled-link : (s : List ℕ) → linkOf (sets (replicate RECORD-OCTETS 0) 0 s) ≡ linkOf s
 filled-link s = link-same s (sets (replicate RECORD-OCTETS 0) 0 s) (filled-at RECORD-OCTETS s)

@@ -58,7 +58,7 @@ words-step l s i n =
 
 -- ---- the whole record
 module _ (l : Link) (k : length (l .left) ≡ timers) where
-  length-rest : length (restOctets l) ≡ 49
+  length-rest : length (restOctets l) ≡ 53
   length-rest = length-append (quads (l .left)) (five (l .at) ++ intervalOctets (l .interval)) ∙ omega (arith, length-quads (l .left))
 
   pub length-record : length (l .setting) ≡ timers → length (recordOctets l) ≡ RECORD-OCTETS
@@ -66,23 +66,23 @@ module _ (l : Link) (k : length (l .left) ≡ timers) where
   length-record h = length-append (quads (l .setting)) (restOctets l) ∙ omega (arith, length-quads (l .setting), length-rest)
 
   module _ (s : List ℕ) where
-    pub rest-run : sets (sets (sets s 36 (quads (l .left))) 72 (five (l .at))) 77 (intervalOctets (l .interval)) ≡ sets s 36 (restOctets l)
+    pub rest-run : sets (sets (sets s 40 (quads (l .left))) 80 (five (l .at))) 85 (intervalOctets (l .interval)) ≡ sets s 40 (restOctets l)
     rest-run =
-        sets-append (five (l .at)) (intervalOctets (l .interval)) (sets s 36 (quads (l .left))) 72 77 refl
-        ∙ sets-append (quads (l .left)) (five (l .at) ++ intervalOctets (l .interval)) s 36 72 (omega (arith, length-quads (l .left)))
+        sets-append (five (l .at)) (intervalOctets (l .interval)) (sets s 40 (quads (l .left))) 80 85 refl
+        ∙ sets-append (quads (l .left)) (five (l .at) ++ intervalOctets (l .interval)) s 40 80 (omega (arith, length-quads (l .left)))
 
     module _ (n : length s ≡ RECORD-OCTETS) where
-      pub record-whole : length (l .setting) ≡ timers → sets (sets s 0 (quads (l .setting))) 36 (restOctets l) ≡ recordOctets l
+      pub record-whole : length (l .setting) ≡ timers → sets (sets s 0 (quads (l .setting))) 40 (restOctets l) ≡ recordOctets l
       unfolding recordOctets
       record-whole h =
-          sets-append (quads (l .setting)) (restOctets l) s 0 36 (omega (arith, length-quads (l .setting)))
+          sets-append (quads (l .setting)) (restOctets l) s 0 40 (omega (arith, length-quads (l .setting)))
           ∙ sets-end (quads (l .setting) ++ restOctets l) s 0 (omega (arith, n, length-record h))
 
       -- where the octets spell the settings already
-      pub record-rest : ((i : ℕ) → getD s i 0 < 256) → l .setting ≡ words s 0 timers → sets s 36 (restOctets l) ≡ recordOctets l
+      pub record-rest : ((i : ℕ) → getD s i 0 < 256) → l .setting ≡ words s 0 timers → sets s 40 (restOctets l) ≡ recordOctets l
       unfolding recordOctets
       record-rest f e =
-          sets-end (restOctets l) s 36 (omega (arith, n, length-rest))
+          sets-end (restOctets l) s 40 (omega (arith, n, length-rest))
           ∙ ap (λ (x : List ℕ). x ++ restOctets l) (sym (ap quads e ∙ quads-words s 0 timers f (omega (arith, n))))
 
 -- ---- into octets that are a record's, and into others

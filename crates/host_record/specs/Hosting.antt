@@ -38,6 +38,7 @@ told s o a =
 unfoldable pub hosted : Call → List ℕ → List ℕ → List ℕ → Done
 hosted call octets s o = pick (eqb (length s) RECORD-OCTETS) (told s o (answered (linkOf s) call octets)) (left BAD-RECORD s o)
 
+-- what is said, and the link that the octets spell after it
 abbrev pub spelled : List ℕ → Said → Answer
 spelled s r = record { link = linkOf s; said = r }
 
@@ -71,7 +72,7 @@ opensInto s o =
     (pick (eqb (length s) RECORD-OCTETS) (record { number = 0; link = recordOctets (o .link) }) (record { number = NO-ROOM; link = s }))
     (record { number = o .refusal; link = s })
 
--- other than nine settings: 3
+-- other than ten settings: 3
 unfoldable pub made : List ℕ → List ℕ → Opening
 made f s = pick (eqb (length f) timers) (opensInto s (opened (settingsOf f))) (record { number = BAD-SETTING; link = s })
 

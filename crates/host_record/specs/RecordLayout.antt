@@ -20,26 +20,26 @@ abbrev pub intervalOctets : Intervals → List ℕ
 intervalOctets i = quads (i .asked ∷ i .force ∷ [])
 
 abbrev pub RECORD-OCTETS : ℕ
-RECORD-OCTETS = 85
+RECORD-OCTETS = 93
 
 -- what follows the settings: all that a call can change
 abbrev pub restOctets : Link → List ℕ
 restOctets l = quads (l .left) ++ (five (l .at) ++ intervalOctets (l .interval))
 
--- 0 to 35 the nine settings in watch order; 36 to 71 the seconds left; 72 to 76 the states of DC, EC, PC, EM and LI; 77 to 84 the intervals
+-- 0 to 39 the ten settings in watch order; 40 to 79 the seconds left; 80 to 84 the states of DC, EC, PC, EM and LI; 85 to 92 the intervals
 unfoldable pub recordOctets : Link → List ℕ
 recordOctets l = quads (l .setting) ++ restOctets l
 
 -- the settings and the seconds left that octets spell
 pub record Spelled (s setting left : List ℕ) : Type 0 where
   pub settings : setting ≡ words s 0 timers
-  pub lefts : left ≡ words s 36 timers
+  pub lefts : left ≡ words s 40 timers
 
 -- and back; octets that are not there are 0
 unfoldable pub linkOf : List ℕ → Link
 linkOf s =
-    made (words s 0 timers) (words s 36 timers) (getD s 72 0 ∷ getD s 73 0 ∷ getD s 74 0 ∷ getD s 75 0 ∷ getD s 76 0 ∷ [])
-    (record { asked = wordAt s 77; force = wordAt s 81 })
+    made (words s 0 timers) (words s 40 timers) (getD s 80 0 ∷ getD s 81 0 ∷ getD s 82 0 ∷ getD s 83 0 ∷ getD s 84 0 ∷ [])
+    (record { asked = wordAt s 85; force = wordAt s 89 })
 
 -- a record into the octets of one; other lengths are no record, and stay
 unfoldable pub saved : Link → List ℕ → List ℕ

@@ -8,7 +8,7 @@ ghost use lib.Seq.{sets};
 ghost use Rattle.octets.specs.Octets.{quads};
 
 pub(crate) fn put_words(out: &mut [u8], at: usize, ws: [u32; TIMERS])
-    requires { ⌜ at + 36 ≤ length (now out) ⌝ }
+    requires { ⌜ at + 40 ≤ length (now out) ⌝ }
     ensures { λ _. ⌜ now (out .exit) ≡ sets (now (out .entry)) at (quads ws) ⌝ }
 {
     let mut i: usize = 0;

@@ -1,4 +1,4 @@
-// The link record in 85 octets, for a host that keeps it in its own memory.
+// The link record in 93 octets, for a host that keeps it in its own memory.
 use crate::put::put_words;
 use ground_answer::record::Link;
 use ground_answer::record::make;
@@ -15,7 +15,7 @@ ghost use Rattle.link.specs.Names.{timers};
 ghost use Rattle.octets.specs.Octets.{wordAt, words};
 ghost use Rattle.host_record.specs.RecordLayout.{five, intervalOctets, Spelled, RECORD-OCTETS, linkOf, restOctets, recordOctets, saved};
 
-pub const RECORD: usize = 85;
+pub const RECORD: usize = 93;
 
 // Settings and seconds left.
 struct Numbers {
@@ -40,7 +40,7 @@ fn numbers_in(s: &[u8]) -> Numbers
     let mut i: usize = 0;
     while i < TIMERS {
         setting[i] = word_in(s, i * 4);
-        left[i] = word_in(s, 36 + i * 4);
+        left[i] = word_in(s, 40 + i * 4);
         i += 1;
     }
     Numbers { setting, left }
@@ -54,10 +54,10 @@ fn spell(s: &[u8]) -> Link
     let n = numbers_in(s);
     let setting = n.setting;
     let left = n.left;
-    let at = [s[72], s[73], s[74], s[75], s[76]];
+    let at = [s[80], s[81], s[82], s[83], s[84]];
     let interval = Intervals {
-        asked: word_in(s, 77),
-        force: word_in(s, 81),
+        asked: word_in(s, 85),
+        force: word_in(s, 89),
     };
     make(setting, left, at, interval)
 }
@@ -76,31 +76,31 @@ pub fn load(s: &[u8]) -> Link
 
 fn put_states(out: &mut [u8], at: [u8; 5])
     requires { ⌜ length (now out) ≡ RECORD-OCTETS ⌝ }
-    ensures { λ _. ⌜ now (out .exit) ≡ sets (now (out .entry)) 72 (five at) ⌝ }
+    ensures { λ _. ⌜ now (out .exit) ≡ sets (now (out .entry)) 80 (five at) ⌝ }
 {
-    out[72] = at[0];
-    out[73] = at[1];
-    out[74] = at[2];
-    out[75] = at[3];
-    out[76] = at[4];
+    out[80] = at[0];
+    out[81] = at[1];
+    out[82] = at[2];
+    out[83] = at[3];
+    out[84] = at[4];
 }
 
 fn put_intervals(out: &mut [u8], i: Intervals)
-    ensures { λ _. ⌜ now (out .exit) ≡ sets (now (out .entry)) 77 (intervalOctets i) ⌝ }
+    ensures { λ _. ⌜ now (out .exit) ≡ sets (now (out .entry)) 85 (intervalOctets i) ⌝ }
 {
-    put_word(out, 77, i.asked);
-    put_word(out, 81, i.force);
+    put_word(out, 85, i.asked);
+    put_word(out, 89, i.force);
 }
 
 // All that a call can change.
 fn put_rest(l: Link, out: &mut [u8])
     requires { ⌜ length (now out) ≡ RECORD-OCTETS ⌝ }
-    ensures { λ _. ⌜ now (out .exit) ≡ sets (now (out .entry)) 36 (restOctets l) ⌝ }
+    ensures { λ _. ⌜ now (out .exit) ≡ sets (now (out .entry)) 40 (restOctets l) ⌝ }
 {
     let left = l.left;
     let at = l.at;
     let interval = l.interval;
-    put_words(out, 36, left);
+    put_words(out, 40, left);
     put_states(out, at);
     put_intervals(out, interval);
 }

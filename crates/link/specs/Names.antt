@@ -1,8 +1,8 @@
--- What the machinery counts, nine timers and five modules; the entries of an action list; the numbers of events.
+-- What the machinery counts, ten timers and five modules; the entries of an action list; the numbers of events.
 use Prim.Native.Nat.{ℕ, _+_, _*_}
 
 abbrev pub timers : ℕ
-timers = 9
+timers = 10
 
 -- the number that stands for none of them
 abbrev pub no-timer : ℕ

@@ -4,7 +4,7 @@ ghost use Rattle.link.specs.Tests.{pick};
 ghost use Rattle.link.specs.Moves.{go, liTo, unlisted};
 
 // How many timers there are, in watch order.
-pub const TIMERS: usize = 9;
+pub const TIMERS: usize = 10;
 
 // The number that stands for none of the timers.
 pub const NO_TIMER: u8 = TIMERS as u8;

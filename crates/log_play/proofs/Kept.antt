@@ -27,7 +27,7 @@ use Rattle.bench_line.specs.Lines.{groundScript, requestIn, octetsCall}
 use Rattle.bench.specs.declared.reply.Setup.{Setup}
 use Rattle.log.specs.Record.{Rec, rec, noted}
 use Rattle.log.specs.Play.{Step}
-use Rattle.log_play.specs.Steps.{fieldIn, wordOf, callIn, callStep, accepted, isSettings, openStep, stepOf}
+use Rattle.log_play.specs.Steps.{fieldIn, wordOf, callIn, callStep, accepted, settingsLong, isSettings, openStep, stepOf}
 
 -- what is longer than 128 octets is refused before any bit of it is read, and so is what is kept of it
 pub read-kept : {A : Type 0} (c : Codec A) (s : List ℕ) → readPdu c (take 129 s) ≡ readPdu c s
@@ -115,7 +115,7 @@ field-kept l w shape seconds s =
     go false true false false e = refl
 
 settings-kept : (r : Rec) → openStep (noted r) ≡ openStep r
-unfolding openStep isSettings
+unfolding openStep isSettings settingsLong
 settings-kept r = go (leb (length (r .octets)) 129) refl
   where
     none : {A : Type 0} (a b : Bool) (x y z : A) → pick (both a (both b false)) x z ≡ pick (both a (both b false)) y z
@@ -129,7 +129,7 @@ settings-kept r = go (leb (length (r .octets)) 129) refl
         let s = r .octets in
         let h = leb-false (length s) 129 e in
         let n = length-take-le 129 s (omega (arith, h)) in
-        rw (ne-eqb (length (take 129 s)) 36 (λ z. omega (arith, z, n)), ne-eqb (length s) 36 (λ z. omega (arith, z, h))) (none (eqb (r .kind) 0) (eqb (r .seconds) 0) _ _ _)
+        rw (ne-eqb (length (take 129 s)) 40 (λ z. omega (arith, z, n)), ne-eqb (length (take 129 s)) 36 (λ z. omega (arith, z, n)), ne-eqb (length s) 40 (λ z. omega (arith, z, h)), ne-eqb (length s) 36 (λ z. omega (arith, z, h))) (none (eqb (r .kind) 0) (eqb (r .seconds) 0) _ _ _)
 
 -- a record and what is kept of it are the same to every box
 pub step-kept : (b : Setup) (r : Rec) → stepOf b (noted r) ≡ stepOf b r

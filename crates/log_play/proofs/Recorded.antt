@@ -4,9 +4,9 @@ use mathlib.Core.Path.{_≡_, refl, sym, ap, _∙_}
 use mathlib.Core.Bool.{Bool, true, false}
 use mathlib.Core.List.{List, [], _∷_, _++_, append-nil}
 use native.Mathlib.Omega.{arith}
-use borrow.Author.Tests.{eqb-true, eqb-false, eq-eqb, leb-true, leb-false}
+use borrow.Author.Tests.{eqb-true, eqb-false, eq-eqb, ne-eqb, leb-true, leb-false}
 use lib.Dec.{T, eqb, leb, lit<}
-use lib.ListN.{length, getD, drop, length-take, List·getD-eq-default}
+use lib.ListN.{length, getD, set, drop, length-take, length-append, List·getD-eq-default}
 use Rattle.per.specs.Pdu as per
 use Rattle.per.specs.Pdu.{pack, encode, got}
 use Rattle.per.specs.Formats.{via, dep, field, choice, altCodec, absent}
@@ -19,7 +19,7 @@ use Rattle.link.specs.Tests.{pick, below}
 use Rattle.link.specs.Names.{timers, EC, PC, of, no-request, DATA-REQUEST}
 use Rattle.link.specs.Watch.{settingOk, liIs}
 use Rattle.link.proofs.Laws.{T-eq, below-at, seconds-range, pick-case}
-use Rattle.ground_tables.specs.Names.{cancel, LI-IDLE, LI-START, LI-ACTIVE}
+use Rattle.ground_tables.specs.Names.{cancel, LI1, LI-IDLE, LI-START, LI-ACTIVE}
 use Rattle.octets.specs.Octets.{quads, words, Octets}
 use Rattle.octets.specs.laws.Numbers.{words-quads, length-quads}
 use Rattle.octets.specs.laws.Runs.{octets-take}
@@ -50,7 +50,7 @@ use Rattle.log.proofs.Packs.{held-all}
 use Rattle.log.proofs.Plays.{play-read}
 use Rattle.log.proofs.Recorders.{recorder-packs}
 use Rattle.log.proofs.Promises.{packed-reads}
-use Rattle.log_play.specs.Steps.{fieldIn, callIn, callStep, accepted, isSettings, openAnswer, openStep, stepOf}
+use Rattle.log_play.specs.Steps.{fieldIn, callIn, callStep, accepted, SETTINGS-OCTETS, OLD-OCTETS, OLD-LI1, settingsLong, isSettings, settingsOf, openAnswer, openStep, stepOf}
 use Rattle.log_play.specs.Records.{recordOf, settingsRecord, recordsFrom, answersFrom, recordsOf, answersOf, Plain, Callable}
 use Rattle.log_play.specs.Plays.{blank}
 use Rattle.log_play.proofs.Kept.{step-kept}
@@ -142,13 +142,13 @@ calls-play (c ∷ cs) l g = go (eqb (reply l c .said .refusal) 0) refl (calls-pl
         rw (step-kept (readySetup l) (recordOf (c .call) (c .octets)), record-plays l (c .call) (c .octets) (g .0 .call) (eqb-true _ 0 e), f)
     go false e f h = h
 
--- nine settings, each 1..86,400
+-- ten settings, each 1..86,400
 pub record Settings (s : List ℕ) : Type 0 where
-  pub nine : length s ≡ timers
+  pub ten : length s ≡ timers
   pub fine : T (below timers (settingOk s))
 
-settings-back : (s : List ℕ) → length s ≡ timers → words (quads s) 0 timers ≡ s
-settings-back s n =
+settings-back : (k : ℕ) (s : List ℕ) → length s ≡ k → words (quads s) 0 k ≡ s
+settings-back k s n =
     ap (λ (j : ℕ). words (quads s) 0 j) (sym n) ∙ ap (λ (x : List ℕ). words x 0 (length s)) (sym (append-nil (quads s))) ∙ words-quads s [] [] 0 refl
 
 opens : (s : List ℕ) → Settings s → accepted (openAnswer (opened s)) ≡ went (readySetup (fresh s)) (refusal (fresh s) 0)
@@ -156,10 +156,23 @@ unfolding opened accepted
 opens s h = rw (T-eq (below timers (settingOk s)) (h .fine))
 
 pub settings-open : (s : List ℕ) → Settings s → stepOf blank (settingsRecord s) ≡ went (readySetup (fresh s)) (refusal (fresh s) 0)
-unfolding stepOf openStep isSettings settingsRecord
+unfolding stepOf openStep isSettings settingsLong settingsOf settingsRecord
 settings-open s h =
-    let n : length (quads s) ≡ 36 = length-quads s ∙ omega (arith, h .nine) in
-    rw (eq-eqb (length (quads s)) 36 n, settings-back s (h .nine)) (opens s h)
+    let n : length (quads s) ≡ SETTINGS-OCTETS = length-quads s ∙ omega (arith, h .ten) in
+    rw (eq-eqb (length (quads s)) SETTINGS-OCTETS n, ne-eqb (length (quads s)) OLD-OCTETS (λ z. omega (arith, z, n)), settings-back timers s (h .ten)) (opens s h)
+
+-- ---- "logs with thirty-six are read with LI1 at 86,400" (02, L8): as the settings with that number behind the nine
+old-last : (s : List ℕ) → length s ≡ LI1 → set (words (quads s) 0 timers) LI1 OLD-LI1 ≡ s ++ (OLD-LI1 ∷ [])
+old-last s h = ap (λ (x : List ℕ). x ++ (OLD-LI1 ∷ [])) (settings-back LI1 s h)
+
+pub old-settings : (s : List ℕ) → length s ≡ LI1 → stepOf blank (settingsRecord s) ≡ stepOf blank (settingsRecord (s ++ (OLD-LI1 ∷ [])))
+unfolding stepOf openStep isSettings settingsLong settingsOf settingsRecord
+old-settings s h =
+    let t = s ++ (OLD-LI1 ∷ []) in
+    let k : length t ≡ timers = length-append s (OLD-LI1 ∷ []) ∙ omega (arith, h) in
+    let n : length (quads s) ≡ OLD-OCTETS = length-quads s ∙ omega (arith, h) in
+    let m : length (quads t) ≡ SETTINGS-OCTETS = length-quads t ∙ omega (arith, k) in
+    rw (ne-eqb (length (quads s)) SETTINGS-OCTETS (λ z. omega (arith, z, n)), eq-eqb (length (quads s)) OLD-OCTETS n, eq-eqb (length (quads t)) SETTINGS-OCTETS m, ne-eqb (length (quads t)) OLD-OCTETS (λ z. omega (arith, z, m)), old-last s h, settings-back timers t k)
 
 -- ---- what is recorded is well formed
 pack-octets : (n : ℕ) (bs : List Bool) → Octets (pack n bs)
@@ -230,7 +243,7 @@ unfolding settingOk
 setting-small s h k = go (leb timers k) refl
   where
     go : (b : Bool) → leb timers k ≡ b → getD s k 0 < 4294967296
-    go true e = rw (List·getD-eq-default s 0 {n = k} (omega (arith, leb-true timers k e, h .nine))) (lit< tt)
+    go true e = rw (List·getD-eq-default s 0 {n = k} (omega (arith, leb-true timers k e, h .ten))) (lit< tt)
     go false e = omega (arith, seconds-range (getD s k 0) (below-at timers (settingOk s) (h .fine) k (leb-false timers k e)))
 
 good-settings : (s : List ℕ) → Settings s → Good (settingsRecord s)
@@ -239,13 +252,18 @@ good-settings s h =
     record {
       kind = lit< tt;
       seconds = lit< tt;
-      short = omega (arith, length-quads s, h .nine);
+      short = omega (arith, length-quads s, h .ten);
       octets = quads-octets s (setting-small s h);
     }
 
 -- ---- a log of calls from good settings on: what is read of it plays as the calls went, with the same box and the same answers, call by call
 pub records-play : (s : List ℕ) → Settings s → (cs : List Made) → All Callable cs → play stepOf blank (recordsOf s cs) ≡ log.got (answersOf s cs)
 records-play s h cs g = rw (settings-open s h, calls-play cs (fresh s) g)
+
+-- and so does a log of before L8, of a link with LI1 at 86,400
+pub old-records-play : (s : List ℕ) → length s ≡ LI1 → (let t = s ++ (OLD-LI1 ∷ []) in Settings t → (cs : List Made) → All Callable cs
+    → play stepOf blank (settingsRecord s ∷ recordsFrom (fresh t) cs) ≡ log.got (answersOf t cs))
+old-records-play s n h cs g = rw (old-settings s n) (records-play (s ++ (OLD-LI1 ∷ [])) h cs g)
 
 pub records-good : (s : List ℕ) → Settings s → (cs : List Made) → All Callable cs → All Good (recordsOf s cs)
 records-good s h cs g = (good-settings s h, good-from cs (fresh s) g)

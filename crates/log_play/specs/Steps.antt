@@ -1,13 +1,15 @@
 -- What a record of the flight log asks of a box (02, L6): "A record is call kind (1 octet: the place of its script word in document 01, from 0), seconds (4, zero
--- unless the call is an elapse), data length (1), data; a request's data is its written PDU, and the settings are the first record, 36 octets of data."
+-- unless the call is an elapse), data length (1), data; a request's data is its written PDU, and the settings are the first record, 36 octets of data", and of L8
+-- "a settings record in the log holds forty octets; logs with thirty-six are read with LI1 at 86,400".
 use mathlib.Core.Bool.{Bool}
 use mathlib.Core.List.{List, []}
 use Prim.Native.Nat.{ℕ, _+_}
 use lib.Dec.{eqb}
-use lib.ListN.{length, getD}
-use Rattle.link.specs.Tests.{both, pick}
+use lib.ListN.{length, getD, set}
+use Rattle.link.specs.Tests.{both, either, pick}
 use Rattle.link.specs.Names.{timers}
 use Rattle.octets.specs.Octets.{words}
+use Rattle.ground_tables.specs.Names.{LI1}
 use Rattle.ground_answer.specs.declared.record.Link.{Link}
 use Rattle.ground_answer.specs.declared.answer.Answer.{Answer}
 use Rattle.ground_answer.specs.declared.fresh.Opened.{Opened}
@@ -48,12 +50,26 @@ unfoldable pub callStep : Link → Parsed Call → Step Setup Answer
 callStep l (makes c s) = accepted (answered l c s)
 callStep l unread = refused
 
--- "the settings are the first record, 36 octets of data": nine numbers of four octets
+-- ten numbers of four octets; before L8 nine
 abbrev pub SETTINGS-OCTETS : ℕ
-SETTINGS-OCTETS = 36
+SETTINGS-OCTETS = 40
+
+abbrev pub OLD-OCTETS : ℕ
+OLD-OCTETS = 36
+
+unfoldable pub settingsLong : ℕ → Bool
+settingsLong n = either (eqb n SETTINGS-OCTETS) (eqb n OLD-OCTETS)
 
 unfoldable pub isSettings : Rec → Bool
-isSettings r = both (eqb (r .kind) 0) (both (eqb (r .seconds) 0) (eqb (length (r .octets)) SETTINGS-OCTETS))
+isSettings r = both (eqb (r .kind) 0) (both (eqb (r .seconds) 0) (settingsLong (length (r .octets))))
+
+-- the setting of LI1 where the record has none
+abbrev pub OLD-LI1 : ℕ
+OLD-LI1 = 86400
+
+-- the settings that its data spells
+unfoldable pub settingsOf : List ℕ → List ℕ
+settingsOf s = pick (eqb (length s) OLD-OCTETS) (set (words s 0 timers) LI1 OLD-LI1) (words s 0 timers)
 
 -- a new link answers with nothing said; bad settings are refused
 abbrev pub openAnswer : Opened → Answer
@@ -61,7 +77,7 @@ openAnswer o = refusal (o .link) (o .refusal)
 
 -- anything else first is "no settings first"
 unfoldable pub openStep : Rec → Step Setup Answer
-openStep r = pick (isSettings r) (accepted (openAnswer (opened (words (r .octets) 0 timers)))) refused
+openStep r = pick (isSettings r) (accepted (openAnswer (opened (settingsOf (r .octets))))) refused
 
 -- a box, which has its settings or not yet, and a record
 unfoldable pub stepOf : Setup → Rec → Step Setup Answer

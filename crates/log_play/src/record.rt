@@ -7,11 +7,13 @@ use ground_answer::answer::Answer;
 use ground_answer::answer::Said;
 use ground_answer::answer::refuse;
 use ground_answer::fresh::open;
+use ground_tables::names::LI1;
 use host_record::answer::ANSWER;
 use host_record::record::RECORD;
 use host_record::record::load;
 use host_record::record::save;
 use host_record::step::serve;
+use link::moves::TIMERS;
 use script::line::ALONE;
 use script::line::HEX;
 use script::line::Held;
@@ -21,11 +23,16 @@ ghost use mathlib.Core.Path.{_≡_};
 ghost use lib.ListN.{length};
 ghost use Rattle.script.specs.Fields.{heldIn};
 ghost use Rattle.log.specs.Record.{rec};
-ghost use Rattle.log_play.specs.Steps.{fieldIn, accepted, callStep, callIn, besideOf, openStep};
+ghost use Rattle.log_play.specs.Steps.{fieldIn, accepted, callStep, callIn, besideOf, settingsLong, settingsOf, openStep};
 ghost use Rattle.log_play.specs.Plays.{stays, stepIn, steppedBy};
 
-// The octets of a settings record: those with which a link record begins.
-pub const SETTINGS: usize = 36;
+// The octets of a settings record: those with which a link record begins. Before there was LI1 it had 36.
+pub const SETTINGS: usize = 40;
+
+const OLD_SETTINGS: usize = 36;
+
+// The setting of LI1 where the record has none.
+const OLD_LI1: u32 = 86400;
 
 // Whether a record `went`, the box after it, what was said, and how many octets of its data came with the call.
 pub struct Stepped {
@@ -112,6 +119,29 @@ fn play_call(b: Setup, kind: u8, seconds: u32, octets: &[u8]) -> Stepped
     accept(b, Answer { link, said }, m)
 }
 
+// Whether a settings record has one of its two lengths.
+fn is_long(n: usize) -> bool
+    ensures { λ r. ⌜ r ≡ settingsLong n ⌝ }
+{
+    if n == SETTINGS {
+        return true;
+    }
+    n == OLD_SETTINGS
+}
+
+// The settings that the data of a record spells.
+fn settings_in(octets: &[u8]) -> [u32; TIMERS]
+    ensures { λ r. ⌜ r ≡ settingsOf (now (octets .entry)) ⌝ }
+{
+    let li1 = LI1 as usize;
+    let l = load(octets);
+    let mut setting = l.setting;
+    if octets.len() == OLD_SETTINGS {
+        setting[li1] = OLD_LI1;
+    }
+    setting
+}
+
 // A record for a box that has none: it is to be its settings.
 fn open_record(b: Setup, kind: u8, seconds: u32, octets: &[u8]) -> Stepped
     ensures { λ r. ⌜ r ≡ stepIn b 0 (openStep (rec kind seconds (now (octets .entry)))) ⌝ }
@@ -122,12 +152,10 @@ fn open_record(b: Setup, kind: u8, seconds: u32, octets: &[u8]) -> Stepped
     if seconds != 0 {
         return stay(b);
     }
-    if octets.len() != SETTINGS {
+    if !is_long(octets.len()) {
         return stay(b);
     }
-    let l = load(octets);
-    let setting = l.setting;
-    let o = open(setting);
+    let o = open(settings_in(octets));
     let link = o.link;
     let a = refuse(link, o.refusal);
     accept(b, a, 0)

@@ -21,8 +21,9 @@ use Rattle.link.specs.Names.{timers}
 use Rattle.octets.specs.Octets.{quads}
 use Rattle.octets.specs.laws.Numbers.{length-quads}
 use Rattle.ground_answer.specs.declared.record.Link.{Link}
-use Rattle.host_record.specs.RecordLayout.{restOctets, recordOctets, saved}
+use Rattle.host_record.specs.RecordLayout.{RECORD-OCTETS, restOctets, recordOctets, saved}
 use Rattle.host_record.proofs.Puts.{length-record, saved-record}
+use Rattle.log_play.specs.Steps.{SETTINGS-OCTETS}
 
 -- ---- a request that may be written finds room
 module _ (g : Ground) (o : List ℕ) (ok : groundC .chk g ≡ 0) (room : 2048 ≤ length o) where
@@ -47,12 +48,12 @@ module _ (g : Ground) (o : List ℕ) (ok : groundC .chk g ≡ 0) (room : 2048 �
     request-goes n e = let z = answer-is in let u : _≡_ {A = ℕ} 0 1 = cc in omega arith
 
 -- ---- a link record begins with its settings
-pub settings-front : (l : Link) → length (l .setting) ≡ timers → length (l .left) ≡ timers → (z r o p : List ℕ) → length z ≡ 85 → r ≡ saved l z → 2048 ≤ length o → p ≡ sets o 0 r
-    → take 36 p ≡ quads (l .setting)
+pub settings-front : (l : Link) → length (l .setting) ≡ timers → length (l .left) ≡ timers → (z r o p : List ℕ) → length z ≡ RECORD-OCTETS → r ≡ saved l z → 2048 ≤ length o → p ≡ sets o 0 r
+    → take SETTINGS-OCTETS p ≡ quads (l .setting)
 unfolding recordOctets
-settings-front l nine left z r o p long is room e =
-    let whole = length-record l left nine in
+settings-front l ten left z r o p long is room e =
+    let whole = length-record l left ten in
     let fits : 0 + length (recordOctets l) ≤ length o = omega (arith, whole) in
-    let n : length (quads (l .setting)) ≡ 36 = length-quads (l .setting) ∙ omega (arith, nine) in
-    ap (take 36) (e ∙ ap (sets o 0) (is ∙ saved-record l z long) ∙ sets-eq (recordOctets l) o 0 fits ∙ append-assoc (quads (l .setting)) (restOctets l) _)
-    ∙ take-at (quads (l .setting)) _ 36 n
+    let n : length (quads (l .setting)) ≡ SETTINGS-OCTETS = length-quads (l .setting) ∙ omega (arith, ten) in
+    ap (take SETTINGS-OCTETS) (e ∙ ap (sets o 0) (is ∙ saved-record l z long) ∙ sets-eq (recordOctets l) o 0 fits ∙ append-assoc (quads (l .setting)) (restOctets l) _)
+    ∙ take-at (quads (l .setting)) _ SETTINGS-OCTETS n

@@ -108,9 +108,9 @@ settings-long (suc k) i list s h =
     go true x p = p
     go false x p = length-replicate {A = ℕ} timers 0
 
-nine-settings : (s : List ℕ) → length (settingsIn s .list) ≡ timers
+ten-settings : (s : List ℕ) → length (settingsIn s .list) ≡ timers
 unfolding settingsIn
-nine-settings s = settings-long timers 0 _ s (length-replicate {A = ℕ} timers 0)
+ten-settings s = settings-long timers 0 _ s (length-replicate {A = ℕ} timers 0)
 
 short-settings : (s : List ℕ) → length s ≡ timers → noted (settingsRecord s) ≡ settingsRecord s
 unfolding settingsRecord
@@ -124,10 +124,10 @@ module _ (b : Setup) (line : List ℕ) (lines : List (List ℕ)) (s : Settings) 
       → scriptKept b (line ∷ lines) ≡ recordsOf (s .list) (callsIn lines)
   unfolding lineKept setKept settingsKept script.lineReply setReply settingsReply openReply
   script-kept new found good opens =
-      let nine : length (s .list) ≡ timers = ap (λ (x : Settings). length (x .list)) (sym is) ∙ nine-settings (drop (wordEnd line) line) in
+      let ten : length (s .list) ≡ timers = ap (λ (x : Settings). length (x .list)) (sym is) ∙ ten-settings (drop (wordEnd line) line) in
       ap (λ (rs : List Rec). notedAll rs ++ scriptKept (lineReply b line .box) lines) first
       ∙ ap (λ (x : Setup). noted (settingsRecord (s .list)) ∷ scriptKept x lines) box
-      ∙ ap (λ (r : Rec). r ∷ scriptKept (readySetup (fresh (s .list))) lines) (short-settings (s .list) nine)
+      ∙ ap (λ (r : Rec). r ∷ scriptKept (readySetup (fresh (s .list))) lines) (short-settings (s .list) ten)
       ∙ ap (λ (rs : List Rec). settingsRecord (s .list) ∷ rs) (calls-kept lines (fresh (s .list)))
     where
       first : lineKept b line ≡ settingsRecord (s .list) ∷ []

@@ -7,7 +7,9 @@ use ground::call::Call;
 use ground::call::answer;
 use ground_answer::fresh::open;
 use ground_answer::record::Link;
+use host_record::record::RECORD;
 use host_record::record::save;
+use log_play::record::SETTINGS;
 use octets::put_octets;
 use pdu::encode_ground;
 use pdu::uplink::Ground;
@@ -29,9 +31,6 @@ ghost use Rattle.bench_line.specs.Settings.{settingsIn};
 ghost use Rattle.bench.specs.Replies.{groundBench, settingsReply};
 ghost use Rattle.log_play.specs.Records.{recordOf};
 ghost use Rattle.log_script.specs.Heard.{heard, heardInto, callKept, settingsKept, Hears};
-
-// The octets of a settings record: those with which a link record begins.
-const SETTINGS: usize = 36;
 
 // Room for the octets of the longest line.
 const ROOM: usize = 2048;
@@ -162,7 +161,7 @@ fn put_settings(l: Link, octets: &mut [u8]) -> usize
     requires { ⌜ 2048 ≤ length (now octets) ⌝ }
     ensures { λ r. ⌜ take r (now (octets .exit)) ≡ quads (l .setting) ⌝ }
 {
-    let mut record = [0u8; 85];
+    let mut record = [0u8; RECORD];
     save(l, &mut record);
     put_octets(octets, 0, &record);
     SETTINGS

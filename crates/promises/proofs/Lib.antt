@@ -6,6 +6,7 @@ pub mod Calls
 pub mod Clock
 pub mod Timers
 pub mod Desk
+pub mod Closing
 pub mod KeptIntervals
 pub mod AirNumbers
 pub mod AirCalls

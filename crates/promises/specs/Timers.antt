@@ -4,22 +4,22 @@ use mathlib.Core.List.{List}
 use Prim.Native.Nat.{ℕ, _+_, _≤_, _<_}
 use lib.Dec.{T, eqb}
 use lib.ListN.{length, getD}
-use Rattle.link.specs.Names.{timers, EC, PC, EM, IDLE}
+use Rattle.link.specs.Names.{timers, EC, PC, EM, LI, IDLE}
 use Rattle.link.specs.Tests.{pick}
 use Rattle.sides.specs.Runs.{after, total, Untouched}
-use Rattle.ground_tables.specs.Names.{ACTIVE, EC1, EC2, PC2}
+use Rattle.ground_tables.specs.Names.{ACTIVE, EC1, EC2, PC2, LI1, LI-END}
 use Rattle.ground_tables.specs.Intervals.{intervalsOk}
-use Rattle.ground_answer.specs.Record.{fresh}
+use Rattle.ground_answer.specs.Record.{fresh, good}
 use Rattle.ground_answer.specs.Aborts.{aborted}
 use Rattle.pdu.specs.Reasons.{TIMER-EXPIRY}
 use Rattle.ground_answer.specs.declared.record.Link.{Link}
 use Rattle.ground.specs.Runs.{answered, Made, ground}
-use Rattle.ground.specs.declared.call.Call.the-variants.{Elapse}
+use Rattle.ground.specs.declared.call.Call.the-variants.{Elapse, Data}
 use Rattle.promises.specs.Sides.{Watches, Expires}
 
--- nine settings of 1..86,400
+-- ten settings of 1..86,400
 pub record Settings (s : List ℕ) : Type 0 where
-  pub nine : length s ≡ timers
+  pub ten : length s ≡ timers
   pub least : (t : ℕ) → t < timers → 1 ≤ getD s t 0
   pub most : (t : ℕ) → t < timers → getD s t 0 ≤ 86400
 
@@ -49,3 +49,13 @@ Desk = (s : List ℕ) → Settings s → (before : List Made) → getD (played s
     → (cs : List Made) → Untouched ground PC2 (played s before) cs → (n : ℕ) → n ≤ 86400
     → played s before .interval .force + getD s PC2 0 ≤ total ground (played s before) cs + n → (octets : List ℕ)
     → answered (after ground (played s before) cs) (Elapse n) octets ≡ aborted (after ground (played s before) cs) TIMER-EXPIRY
+
+-- 02, L8: "An end request was lost below us and a link stood in END all night."
+pub record Closing : Type 0 where
+  -- LI1 "runs exactly in END. On expiry, abort 4 as usual": the elapse with which LI1's setting has passed in END aborts the link
+  pub ends : (s : List ℕ) → Settings s → (before : List Made) → getD (played s before .at) LI 0 ≡ LI-END
+      → (cs : List Made) → Untouched ground LI1 (played s before) cs → (n : ℕ) → n ≤ 86400
+      → getD s LI1 0 ≤ total ground (played s before) cs + n → (octets : List ℕ)
+      → answered (after ground (played s before) cs) (Elapse n) octets ≡ aborted (after ground (played s before) cs) TIMER-EXPIRY
+  -- "Late data doesn't restart it"
+  pub late : (l : Link) (octets : List ℕ) → T (good l) → getD (l .at) LI 0 ≡ LI-END → answered l Data octets .link ≡ l

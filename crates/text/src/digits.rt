@@ -1,4 +1,4 @@
-// Whole numbers as text, one or nine of them.
+// Whole numbers as text, one or several of them.
 use crate::word_end;
 ghost use mathlib.Core.Path.{_≡_};
 ghost use Rattle.text.specs.Numbers.{numberFrom, numberOf, steppedOf, stepOf};

@@ -12,7 +12,7 @@ use Rattle.host_record.proofs.record.numbers_in.Tie as tie
 
 abbrev Inv-loop : tie.InvT-loop
 Inv-loop s setting₀ left₀ i₀ setting left i =
-    (i ≤ timers) × ((setting ≡ sets (replicate timers 0) 0 (words s 0 i)) × (left ≡ sets (replicate timers 0) 0 (words s 36 i)))
+    (i ≤ timers) × ((setting ≡ sets (replicate timers 0) 0 (words s 0 i)) × (left ≡ sets (replicate timers 0) 0 (words s 40 i)))
 
 abbrev μ-loop : tie.MeasureT-loop
 μ-loop s setting₀ left₀ i₀ setting left i = timers - i
@@ -59,7 +59,7 @@ loop-again c =
     let s = k .before .before .args .s .now in
     let i = k .loop .i in
     let z : i * 4 ≡ 0 + i * 4 = omega arith in
-    (omega arith, (rw (k .loop .inv .1 .0, c .before .word-in .ensures, z) (words-step (replicate timers 0) s 0 i), rw (k .loop .inv .1 .1, c .word-in2 .ensures) (words-step (replicate timers 0) s 36 i)))
+    (omega arith, (rw (k .loop .inv .1 .0, c .before .word-in .ensures, z) (words-step (replicate timers 0) s 0 i), rw (k .loop .inv .1 .1, c .word-in2 .ensures) (words-step (replicate timers 0) s 40 i)))
 
 returns : tie.Need-returns Inv-loop μ-loop
 returns c =
