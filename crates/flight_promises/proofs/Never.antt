@@ -35,7 +35,8 @@ use Rattle.flight_line.specs.AirUsers as ofAir
 use Rattle.flight_line.specs.Boths.{Both, bothWith, bothHear, unlessRefused, elapseReply, cutReply}
 use Rattle.flight_line.specs.Lines.{ended, refusedLine, bothReady, restOf, countOf, countIn, flightWords, groundLine, airLine, elapseLine, carryCount, carryLine, thenLost, cutLine, otherLine, flightAs, flightLine, worldOn}
 use Rattle.flight_promises.specs.Fitting.{letterFits, allFit}
-use Rattle.flight_promises.specs.Shown.{Fair, noneInvalid, groundAsks, airAsks, groundShows, airShows, bothShow, elapseShows, cutShows, letterShows, carriedShow, deliverShows, showsAs, lineShows, shownOn, NeverInvalid}
+use Rattle.flight_promises.specs.Told.{groundAsks, airAsks, groundUses, airUses, bothTold, elapseTold, numberTold, cutTold, letterTold, carriedTold, countTold, deliverTold, toldAs, lineTold, toldOn}
+use Rattle.flight_promises.specs.Shown.{reasons, Fair, noneInvalid, NeverInvalid}
 use Rattle.flight_promises.proofs.Goings.{both-on}
 use Rattle.flight_promises.proofs.Letters.{both-first, both-second}
 use Rattle.flight_promises.proofs.Hears.{ground-hears, air-hears, groundWell, airWell, ground-user, air-user}
@@ -70,8 +71,8 @@ ground-letter : (w : World) (l : Letter) → l .up ≡ false → letterFits l �
 unfolding letterFits came
 ground-letter w l u f h = ground-fair w (toGround.callFor (l .kind)) (came l) (rw u (ground-hears (l .kind) (octetsIn l) (rw u at f))) h
 
-comes-fair : (hear : Bool) (w : World) (l : Letter) → letterFits l ≡ true → allFit (w .under) ≡ true → Fair (comes hear w l .world) (pick hear (letterShows w l) [])
-unfolding comes letterShows airCarried groundCarried airSaid groundSaid cameTo
+comes-fair : (hear : Bool) (w : World) (l : Letter) → letterFits l ≡ true → allFit (w .under) ≡ true → Fair (comes hear w l .world) (pick hear (letterTold reasons w l) [])
+unfolding comes letterTold airCarried groundCarried airSaid groundSaid cameTo
 comes-fair hear w l f h =
     let to : Carried → World = λ c. c .world in
     fair-by to hear
@@ -104,11 +105,11 @@ module _ (hear : Bool) (number : ℕ) (w : World) (some : 1 ≤ length (w .under
   abbrev x : Carried
   x = comes hear (without w) (oldestOf (w .under))
 
-  x-fair : Fair (x .world) (pick hear (letterShows (without w) (oldestOf (w .under))) [])
+  x-fair : Fair (x .world) (pick hear (letterTold reasons (without w) (oldestOf (w .under))) [])
   unfolding without
   x-fair = comes-fair hear (without w) (oldestOf (w .under)) (oldest-fits (w .under) some h) (others-fit (w .under) h)
 
-  one-fair : (i : ℕ) → Fair (carriedOne hear number i w .world) (pick hear (letterShows (without w) (oldestOf (w .under))) [])
+  one-fair : (i : ℕ) → Fair (carriedOne hear number i w .world) (pick hear (letterTold reasons (without w) (oldestOf (w .under))) [])
   unfolding carriedOne carriedWith
   one-fair i = record { fits = pick-case (λ (v : World). allFit (v .under) ≡ true) (x .stays) (λ e. h) (λ e. x-fair .fits); valid = x-fair .valid }
 
@@ -121,14 +122,14 @@ module _ (hear : Bool) (number : ℕ) (w : World) (some : 1 ≤ length (w .under
 abbrev box : Reply World → World
 box r = r .box
 
-delivered-fair : (k number i : ℕ) (w : World) → k ≤ length (w .under) → allFit (w .under) ≡ true → Fair (carried true k number i w .box) (carriedShow k number i w)
+delivered-fair : (k number i : ℕ) (w : World) → k ≤ length (w .under) → allFit (w .under) ≡ true → Fair (carried true k number i w .box) (carriedTold reasons k number i w)
 delivered-fair zero number i w n h = quiet w h
 delivered-fair (suc k) number i w n h =
     let c = carriedOne true number (i + 1) w in
     let some : 1 ≤ length (w .under) = omega (arith, n) in
     let f = one-fair true number w some h (i + 1) in
-    fair-then f
-    (fair-by box (c .stays) (λ e. quiet (c .world) (f .fits)) (λ e. delivered-fair k number (i + 1) (c .world) (one-grows true number w some h (i + 1) k n) (f .fits)))
+    fair-by box (c .stays) (λ e. quiet (c .world) (f .fits))
+    (λ e. fair-then f (delivered-fair k number (i + 1) (c .world) (one-grows true number w some h (i + 1) k n) (f .fits)))
 
 lost-fair : (k number i : ℕ) (w : World) → k ≤ length (w .under) → allFit (w .under) ≡ true → Fair (carried false k number i w .box) []
 lost-fair zero number i w n h = quiet w h
@@ -140,25 +141,25 @@ lost-fair (suc k) number i w n h =
     (λ e. lost-fair k number (i + 1) (c .world) (one-grows false number w some h (i + 1) k n) (f .fits))
 
 -- users
-ground-asked : (w : World) (p : Parsed groundCall.Call) → groundWell p ≡ true → allFit (w .under) ≡ true → Fair (ofGround.groundAsked w p .box) (groundAsks w p)
+ground-asked : (w : World) (p : Parsed groundCall.Call) → groundWell p ≡ true → allFit (w .under) ≡ true → Fair (ofGround.groundAsked w p .box) (groundAsks reasons w p)
 unfolding ofGround.groundAsked ofGround.groundSaid groundAsks refused
 ground-asked w (makes c s) e h = ground-fair w c s e h
 ground-asked w unread e h = quiet w h
 
-air-asked : (w : World) (p : Parsed Asked) → airWell p ≡ true → allFit (w .under) ≡ true → Fair (ofAir.airAsked w p .box) (airAsks w p)
+air-asked : (w : World) (p : Parsed Asked) → airWell p ≡ true → allFit (w .under) ≡ true → Fair (ofAir.airAsked w p .box) (airAsks reasons w p)
 unfolding ofAir.airAsked ofAir.airSaid airAsks refused
 air-asked w (makes c s) e h = air-fair w (w .taken) (c .call) (c .list) s e h
 air-asked w unread e h = quiet w h
 
-ground-line : (w : World) (line : List ℕ) → allFit (w .under) ≡ true → Fair (ofGround.groundUser w line .box) (groundShows w line)
-unfolding ofGround.groundUser ofGround.groundSet ofGround.groundWith groundShows refused
+ground-line : (w : World) (line : List ℕ) → allFit (w .under) ≡ true → Fair (ofGround.groundUser w line .box) (groundUses reasons w line)
+unfolding ofGround.groundUser ofGround.groundSet ofGround.groundWith groundUses refused
 ground-line w line h =
     fair-by box (isUser line)
     (λ u. fair-by box (w .ground .ready) (λ r. ground-asked w (groundLines.parsedLine line) (ground-user line u) h) (λ r. record { fits = h; valid = refl }))
     (λ u. quiet w h)
 
-air-line : (w : World) (line : List ℕ) → allFit (w .under) ≡ true → Fair (ofAir.airUser w line .box) (airShows w line)
-unfolding ofAir.airUser ofAir.airSet ofAir.airWith airShows refused
+air-line : (w : World) (line : List ℕ) → allFit (w .under) ≡ true → Fair (ofAir.airUser w line .box) (airUses reasons w line)
+unfolding ofAir.airUser ofAir.airSet ofAir.airWith airUses refused
 air-line w line h =
     fair-by box (isUser line)
     (λ u. fair-by box (w .air .ready) (λ r. air-asked w (parsedLine line) (air-user line u) h) (λ r. record { fits = h; valid = refl }))
@@ -166,39 +167,35 @@ air-line w line h =
 
 -- both ends
 both-fair : (w : World) (g : groundCall.Call) (a : airCall.Call) → ground.heardWell g [] ≡ true → air.heardWell a [] ≡ true → allFit (w .under) ≡ true
-    → Fair (bothHear w g a .world) (bothShow (bothHear w g a))
-unfolding bothHear bothWith bothShow
+    → Fair (bothHear w g a .world) (bothTold reasons w g a)
+unfolding bothHear bothWith bothTold
 both-fair w g a e f h =
     let v = toGround.turned w g [] .world in
     let x = ground-fair w g [] e h in
     fair-then x (air-fair v (v .taken) a noList [] f (x .fits))
 
 elapse-both : (w : World) (n : ℕ) → allFit (w .under) ≡ true
-    → Fair (bothHear w (groundCall.the-variants.Elapse n) (airCall.the-variants.Elapse n) .world) (bothShow (bothHear w (groundCall.the-variants.Elapse n) (airCall.the-variants.Elapse n)))
+    → Fair (bothHear w (groundCall.the-variants.Elapse n) (airCall.the-variants.Elapse n) .world) (bothTold reasons w (groundCall.the-variants.Elapse n) (airCall.the-variants.Elapse n))
 unfolding ground.heardWell air.heardWell
 elapse-both w n h = both-fair w (groundCall.the-variants.Elapse n) (airCall.the-variants.Elapse n) refl refl h
 
 down-both : (w : World) → allFit (w .under) ≡ true
-    → Fair (bothHear w groundCall.the-variants.Down airCall.the-variants.Down .world) (bothShow (bothHear w groundCall.the-variants.Down airCall.the-variants.Down))
+    → Fair (bothHear w groundCall.the-variants.Down airCall.the-variants.Down .world) (bothTold reasons w groundCall.the-variants.Down airCall.the-variants.Down)
 unfolding ground.heardWell air.heardWell
 down-both w h = both-fair w groundCall.the-variants.Down airCall.the-variants.Down refl refl h
 
-unless-fair : (w : World) (b : Both) {r : List ℕ} → allFit (w .under) ≡ true → Fair (b .world) r → Fair (unlessRefused w b .box) r
-unfolding unlessRefused refused
-unless-fair w b {r} h f =
-    let Q : Reply World → Type 0 = λ x. Fair (x .box) r in
-    let n : Fair w r = record { fits = h; valid = f .valid } in
-    pick-case Q (eqb (b .ground .refusal) 0) (λ e. pick-case Q (eqb (b .air .refusal) 0) (λ g. f) (λ g. n)) (λ e. n)
-
-elapse-fair : (w : World) (v : Number) → allFit (w .under) ≡ true → Fair (elapseLine w v .box) (elapseShows w v)
-unfolding elapseLine elapseShows elapseReply ended refusedLine refused
+elapse-fair : (w : World) (v : Number) → allFit (w .under) ≡ true → Fair (elapseLine w v .box) (numberTold reasons w v)
+unfolding elapseLine numberTold elapseReply unlessRefused elapseTold ended refusedLine refused
 elapse-fair w (Value n) h =
     let b = bothHear w (groundCall.the-variants.Elapse n) (airCall.the-variants.Elapse n) in
-    fair-by box (bothReady w) (λ r. unless-fair w b h (elapse-both w n h)) (λ r. quiet w h)
+    fair-by box (bothReady w)
+    (λ r. fair-by box (eqb (b .ground .refusal) 0)
+    (λ e. fair-by box (eqb (b .air .refusal) 0) (λ f. elapse-both w n h) (λ f. quiet w h)) (λ e. quiet w h))
+    (λ r. quiet w h)
 elapse-fair w Unread h = quiet w h
 
-cut-fair : (w : World) (number : ℕ) (tail : List ℕ) → allFit (w .under) ≡ true → Fair (cutLine w number tail .box) (cutShows w tail)
-unfolding cutLine cutShows cutReply thenLost ended refusedLine refused
+cut-fair : (w : World) (number : ℕ) (tail : List ℕ) → allFit (w .under) ≡ true → Fair (cutLine w number tail .box) (cutTold reasons w tail)
+unfolding cutLine cutTold cutReply thenLost ended refusedLine refused
 cut-fair w number tail h =
     let v = bothHear w groundCall.the-variants.Down airCall.the-variants.Down .world in
     let f = down-both w h in
@@ -217,16 +214,13 @@ count-in : (have : ℕ) (tail : List ℕ) → countIn have tail ≤ have
 unfolding countIn
 count-in have tail = pick-case (λ (k : ℕ). k ≤ have) (eqb (length tail) 0) (λ e. le-refl have) (λ e. count-of have (numberAfter tail))
 
-count-fair : (w : World) (number k : ℕ) → k ≤ length (w .under) → allFit (w .under) ≡ true → Fair (carryCount w number true k .box) (carriedShow k number 0 w)
-unfolding carryCount refusedLine ended refused
-count-fair w number k n h =
-    pick-case (λ (r : Reply World). Fair (r .box) (carriedShow k number 0 w)) (eqb k 0)
-    (λ e. let z = eqb-true k 0 e in rw z (quiet w h)) (λ e. delivered-fair k number 0 w n h)
-
-deliver-fair : (w : World) (number : ℕ) (tail : List ℕ) → allFit (w .under) ≡ true → Fair (carryLine w number tail true .box) (deliverShows w number tail)
-unfolding carryLine deliverShows refusedLine ended refused
+deliver-fair : (w : World) (number : ℕ) (tail : List ℕ) → allFit (w .under) ≡ true → Fair (carryLine w number tail true .box) (deliverTold reasons w number tail)
+unfolding carryLine carryCount deliverTold countTold refusedLine ended refused
 deliver-fair w number tail h =
-    fair-by box (bothReady w) (λ r. count-fair w number (countIn (length (w .under)) tail) (count-in (length (w .under)) tail) h) (λ r. quiet w h)
+    let k = countIn (length (w .under)) tail in
+    fair-by box (bothReady w)
+    (λ r. fair-by box (eqb k 0) (λ e. quiet w h) (λ e. delivered-fair k number 0 w (count-in (length (w .under)) tail) h))
+    (λ r. quiet w h)
 
 lose-fair : (w : World) (number : ℕ) (tail : List ℕ) → allFit (w .under) ≡ true → Fair (carryLine w number tail false .box) []
 unfolding carryLine carryCount refusedLine ended refused
@@ -236,8 +230,8 @@ lose-fair w number tail h =
     pick-case Q (bothReady w) (λ r. pick-case Q (eqb k 0) (λ e. quiet w h) (λ e. lost-fair k number 0 w (count-in (length (w .under)) tail) h)) (λ r. quiet w h)
 
 -- lines
-as-fair : (w : World) (number : ℕ) (line : List ℕ) (k : ℕ) → allFit (w .under) ≡ true → Fair (flightAs w number line k .box) (showsAs w number line k)
-unfolding flightAs otherLine groundLine airLine showsAs refusedLine ended refused
+as-fair : (w : World) (number : ℕ) (line : List ℕ) (k : ℕ) → allFit (w .under) ≡ true → Fair (flightAs w number line k .box) (toldAs reasons w number line k)
+unfolding flightAs otherLine groundLine airLine toldAs refusedLine ended refused
 as-fair w number line k h =
     let tail = drop (wordEnd line) line in
     fair-by box (eqb k 1) (λ e. ground-line w (restOf line) h)
@@ -246,12 +240,12 @@ as-fair w number line k h =
     (λ e. fair-by box (eqb k 4) (λ e. deliver-fair w number tail h)
     (λ e. fair-by box (eqb k 5) (λ e. lose-fair w number tail h) (λ e. fair-by box (eqb k 6) (λ e. cut-fair w number tail h) (λ e. quiet w h))))))
 
-line-fair : (w : World) (number : ℕ) (line : List ℕ) → allFit (w .under) ≡ true → Fair (flightLine w number line .box) (lineShows w number line)
-unfolding flightLine lineShows refusedLine ended refused
+line-fair : (w : World) (number : ℕ) (line : List ℕ) → allFit (w .under) ≡ true → Fair (flightLine w number line .box) (lineTold reasons w number line)
+unfolding flightLine lineTold refusedLine ended refused
 line-fair w number line h =
     fair-by box (ltb 4096 (length line)) (λ e. quiet w h) (λ e. as-fair w number line (foundFrom 0 (take (wordEnd line) line) flightWords) h)
 
-lines-fair : (n : ℕ) (w : World) (lines : List (List ℕ)) → allFit (w .under) ≡ true → Fair (worldOn n w lines) (shownOn n w lines)
+lines-fair : (n : ℕ) (w : World) (lines : List (List ℕ)) → allFit (w .under) ≡ true → Fair (worldOn n w lines) (toldOn reasons n w lines)
 lines-fair n w [] h = quiet w h
 lines-fair n w (l ∷ ls) h =
     let f = line-fair w (bumped n) l h in

@@ -1,3 +1,4 @@
+pub mod Told
 pub mod Flights
 pub mod Sendings
 pub mod Fitting
