@@ -102,7 +102,7 @@ TEXTS = {
         "ADSC_LINK_SETTINGS": r"put_words\(out, (\d+), setting\)", "ADSC_LINK_LEFT": r"put_words\(out, (\d+), left\)",
         "ADSC_LINK_DC": r"out\[(\d+)\] = at\[0\]", "ADSC_LINK_EC": r"out\[(\d+)\] = at\[1\]", "ADSC_LINK_PC": r"out\[(\d+)\] = at\[2\]",
         "ADSC_LINK_EM": r"out\[(\d+)\] = at\[3\]", "ADSC_LINK_LI": r"out\[(\d+)\] = at\[4\]",
-        "ADSC_LINK_ASKED": r"\basked(?: =|:) read_word\(s, (\d+)\)", "ADSC_LINK_FORCE": r"\bforce(?: =|:) read_word\(s, (\d+)\)"},
+        "ADSC_LINK_ASKED": r"\basked: word_in\(s, (\d+)\)", "ADSC_LINK_FORCE": r"\bforce: word_in\(s, (\d+)\)"},
     "host_record/src/answer.rt": {
         "ADSC_ANSWER_REASON": r"f\[(\d+)\] = q\[0\];", "ADSC_ANSWER_ACTIONS": r"f\[(\d+)\] = n;", "ADSC_ANSWER_SENT": r"f\[(\d+)\] = m;"},
     "link/src/watch.rt": {"ADSC_SECONDS_MOST": r"x <= (\d+)"},
