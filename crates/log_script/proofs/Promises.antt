@@ -108,7 +108,7 @@ settings-long (suc k) i list s h =
     go true x p = p
     go false x p = length-replicate {A = ℕ} timers 0
 
-ten-settings : (s : List ℕ) → length (settingsIn s .list) ≡ timers
+pub ten-settings : (s : List ℕ) → length (settingsIn s .list) ≡ timers
 unfolding settingsIn
 ten-settings s = settings-long timers 0 _ s (length-replicate {A = ℕ} timers 0)
 

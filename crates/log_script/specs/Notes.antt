@@ -1,9 +1,8 @@
--- The log of a script while it is written. `log` says what `append` and `finish` do with a block.
+-- The log of a script while it is written: `log`'s recorder, beside the box that the lines are asked of.
 use mathlib.Core.Path.{_≡_}
 use mathlib.Core.Bool.{Bool, true, false, not}
 use mathlib.Core.List.{List, [], _∷_, _++_}
 use Prim.Native.Nat.{ℕ}
-use lib.Dec.{eqb}
 use lib.ListN.{length, take}
 use Rattle.text.specs.Text.{pick}
 use Rattle.text.specs.Page.{Page, page, Writes}
@@ -14,11 +13,56 @@ use Rattle.log.specs.declared.Appended.the-variants.{Wrote, Full, Ended, Refuse
 use Rattle.log.specs.declared.Finished.{Finished}
 use Rattle.log.specs.declared.Finished.the-variants.{Next, Last, Unfit}
 use Rattle.log.specs.Record.{Rec, rec, noted}
-use Rattle.log.specs.Tapes.{appended, appendedTo, finished, finishedTo}
+use Rattle.log.specs.Tapes.{appended, appendedTo, finished, finishedTo, recorder, noteAll}
+use Rattle.log.specs.Tapes as tapes
 use Rattle.log_script.specs.declared.line.Entry.{Entry}
 use Rattle.log_script.specs.declared.recorder.Recorder.{Recorder}
 use Rattle.log_script.specs.Heard.{Heard}
 
+-- ---- the box, the log, and whether it has ended
+pub record Desk : Type 0 where
+  pub box : Setup
+  pub log : tapes.Recorder
+  pub ended : Bool
+
+abbrev pub desk : Setup → tapes.Recorder → Bool → Desk
+desk b l e = record { box = b; log = l; ended = e }
+
+abbrev pub ends : Appended → Bool
+ends (Wrote t) = false
+ends Full = false
+ends Ended = true
+ends Refused = true
+
+unfoldable pub noteOn : Desk → Rec → Desk
+noteOn d x = desk (d .box) (noteAll (d .log) (x ∷ [])) (ends (appended (d .log .at) (d .log .block) x))
+
+-- a log that has ended takes no record more, so that what it has plays as the calls went
+abbrev pub keptOn : Desk → List Rec → Desk
+keptOn d [] = d
+keptOn d (x ∷ xs) = keptOn (pick (d .ended) d (noteOn d (noted x))) xs
+
+-- the box after a line, and its record in the log
+unfoldable pub lineOn : Desk → Heard → Desk
+lineOn d h = keptOn (desk (h .box) (d .log) (d .ended)) (h .kept)
+
+-- ---- what the code has of it: a block, and a page on which the finished ones stand
+abbrev pub deskOf : Recorder → List ℕ → Desk
+deskOf r b = desk (r .setup) (recorder (r .tape) b []) (r .ended)
+
+abbrev pub textOf : List (List ℕ) → List ℕ
+textOf [] = []
+textOf (b ∷ bs) = b ++ textOf bs
+
+pub record Leaves (d : Desk) (p : Page) (r : Recorder) (b out : List ℕ) : Type 0 where
+  pub box-is : r .setup ≡ d .box
+  pub tape-is : r .tape ≡ d .log .at
+  pub full-is : r .full ≡ false
+  pub ended-is : r .ended ≡ d .ended
+  pub block-is : b ≡ d .log .block
+  pub page-is : Writes p (textOf (d .log .done)) (page out (r .at))
+
+-- ---- its steps
 -- the record of an entry, as the log keeps it
 abbrev pub entryRec : Entry → List ℕ → Rec
 entryRec e o = noted (rec (e .kind) (e .seconds) (take (e .len) o))
@@ -44,49 +88,13 @@ afterFinish r (Next t) = atTape r t
 afterFinish r Last = stoppedAt r false
 afterFinish r Unfit = stoppedAt r false
 
--- the recorder, its block, and the text of the blocks that were finished
-pub record Desk : Type 0 where
-  pub recorder : Recorder
-  pub block : List ℕ
-  pub text : List ℕ
+-- a record for the block
+pub record Enters (r : Recorder) (b : List ℕ) (x : Rec) (q : Recorder) (left : List ℕ) : Type 0 where
+  pub recorder-is : q ≡ afterAppend r (appended (r .tape) b x)
+  pub block-is : left ≡ appendedTo (r .tape) b x
 
-abbrev pub desk : Recorder → List ℕ → List ℕ → Desk
-desk r b t = record { recorder = r; block = b; text = t }
-
-unfoldable pub entered : Desk → Rec → Desk
-entered d x =
-    desk (afterAppend (d .recorder) (appended (d .recorder .tape) (d .block) x)) (appendedTo (d .recorder .tape) (d .block) x) (d .text)
-
-unfoldable pub turned : Desk → Desk
-turned d =
-    let b = finishedTo (d .recorder .tape) (d .block) in
-    desk (afterFinish (d .recorder) (finished (d .recorder .tape) (length (d .block)))) b (d .text ++ b)
-
--- "A record that doesn't fit opens the next block"
-unfoldable pub noteOn : Desk → Rec → Desk
-noteOn d x = pick (entered d x .recorder .full) (entered (turned (entered d x)) x) (entered d x)
-
--- the box after a line; a log that has ended takes no record more, so that what it has plays as the calls went
-abbrev pub heardBy : Recorder → Setup → Recorder
-heardBy r b = record { setup = b; tape = r .tape; at = r .at; full = false; ended = r .ended }
-
-abbrev pub keptOn : Desk → List Rec → Desk
-keptOn d [] = d
-keptOn d (x ∷ xs) = pick (d .recorder .ended) d (noteOn d (noted x))
-
-unfoldable pub lineOn : Desk → Heard → Desk
-lineOn d h = keptOn (desk (heardBy (d .recorder) (h .box)) (d .block) (d .text)) (h .kept)
-
--- the block that is begun is the last one; none where it has no record
-unfoldable pub closed : Desk → Desk
-closed d = pick (eqb (d .recorder .tape .used) 0) d (turned d)
-
--- what the code leaves: the pen stands behind the text
-pub record Leaves (d : Desk) (p : Page) (r : Recorder) (b out : List ℕ) : Type 0 where
-  pub recorder-is : r ≡ movedTo (d .recorder) (r .at)
-  pub block-is : b ≡ d .block
-  pub page-is : Writes p (d .text) (page out (r .at))
-
-pub record Enters (d : Desk) (r : Recorder) (b : List ℕ) : Type 0 where
-  pub recorder-is : r ≡ d .recorder
-  pub block-is : b ≡ d .block
+-- a block that is finished, and stands on the page
+pub record Turns (r : Recorder) (b : List ℕ) (p : Page) (q : Recorder) (left out : List ℕ) : Type 0 where
+  pub recorder-is : q ≡ movedTo (afterFinish r (finished (r .tape) (length b))) (q .at)
+  pub block-is : left ≡ finishedTo (r .tape) b
+  pub page-is : Writes p left (page out (q .at))

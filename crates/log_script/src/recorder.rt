@@ -18,10 +18,10 @@ use text_lines::input::pull_line;
 use text_lines::input::shown;
 use text_lines::input::start;
 ghost use mathlib.Core.Path.{_≡_};
-ghost use mathlib.Core.List.{[]};
-ghost use Rattle.text.specs.Page.{page};
+ghost use Rattle.text.specs.Page.{page, Writes};
+ghost use Rattle.log.specs.Tapes.{logOf};
 ghost use Rattle.log_script.specs.Heard.{heardLine};
-ghost use Rattle.log_script.specs.Notes.{entryRec, atTape, stoppedAt, desk, entered, turned, noteOn, lineOn, closed, Leaves, Enters};
+ghost use Rattle.log_script.specs.Notes.{noteOn, lineOn, deskOf, textOf, Leaves, entryRec, atTape, stoppedAt, Enters, Turns};
 
 // The box, the block that is being written, and the place of the pen on the page of finished ones. A block that is `full` is to be finished before the next record,
 // and a log that has `ended` takes no record more.
@@ -62,7 +62,7 @@ fn stopped(r: Recorder, full: bool) -> Recorder
 
 // The record of a line into the block, if it has room.
 fn put_entry(r: Recorder, e: Entry, octets: &[u8], block: &mut [u8]) -> Recorder
-    ensures { λ q. ⌜ Enters (entered (desk r (now (block .entry)) []) (entryRec e (now (octets .entry)))) q (now (block .exit)) ⌝ }
+    ensures { λ q. ⌜ Enters r (now (block .entry)) (entryRec e (now (octets .entry))) q (now (block .exit)) ⌝ }
 {
     let tape = r.tape;
     let n = least(e.len, octets.len());
@@ -77,7 +77,7 @@ fn put_entry(r: Recorder, e: Entry, octets: &[u8], block: &mut [u8]) -> Recorder
 
 // Finishes the block, which then stands on the page.
 fn turn_block(r: Recorder, block: &mut [u8], out: &mut [u8]) -> Recorder
-    ensures { λ q. ⌜ Leaves (turned (desk r (now (block .entry)) [])) (page (now (out .entry)) (r .at)) q (now (block .exit)) (now (out .exit)) ⌝ }
+    ensures { λ q. ⌜ Turns r (now (block .entry)) (page (now (out .entry)) (r .at)) q (now (block .exit)) (now (out .exit)) ⌝ }
 {
     let mut t = r;
     let tape = r.tape;
@@ -92,7 +92,7 @@ fn turn_block(r: Recorder, block: &mut [u8], out: &mut [u8]) -> Recorder
 
 // The record of a line: one that doesn't fit opens the next block.
 fn note(r: Recorder, e: Entry, octets: &[u8], block: &mut [u8], out: &mut [u8]) -> Recorder
-    ensures { λ q. ⌜ Leaves (noteOn (desk r (now (block .entry)) []) (entryRec e (now (octets .entry)))) (page (now (out .entry)) (r .at)) q (now (block .exit)) (now (out .exit)) ⌝ }
+    ensures { λ q. ⌜ Leaves (noteOn (deskOf r (now (block .entry))) (entryRec e (now (octets .entry)))) (page (now (out .entry)) (r .at)) q (now (block .exit)) (now (out .exit)) ⌝ }
 {
     let first = put_entry(r, e, octets, block);
     if !first.full {
@@ -104,7 +104,7 @@ fn note(r: Recorder, e: Entry, octets: &[u8], block: &mut [u8], out: &mut [u8]) 
 
 // One line: its call is answered, and recorded where it is accepted.
 fn add_line(r: Recorder, line: &[u8], block: &mut [u8], out: &mut [u8]) -> Recorder
-    ensures { λ q. ⌜ Leaves (lineOn (desk r (now (block .entry)) []) (heardLine (r .setup) (now (line .entry)))) (page (now (out .entry)) (r .at)) q (now (block .exit)) (now (out .exit)) ⌝ }
+    ensures { λ q. ⌜ Leaves (lineOn (deskOf r (now (block .entry))) (heardLine (r .setup) (now (line .entry)))) (page (now (out .entry)) (r .at)) q (now (block .exit)) (now (out .exit)) ⌝ }
 {
     let mut octets = line_room();
     let setup = r.setup;
@@ -166,7 +166,7 @@ fn run(
 
 // The block that is begun is the last one; none where it has no record.
 fn close_log(r: Recorder, block: &mut [u8], out: &mut [u8]) -> Recorder
-    ensures { λ q. ⌜ Leaves (closed (desk r (now (block .entry)) [])) (page (now (out .entry)) (r .at)) q (now (block .exit)) (now (out .exit)) ⌝ }
+    ensures { λ q. ⌜ Writes (page (now (out .entry)) (r .at)) (textOf (logOf (deskOf r (now (block .entry)) .log))) (page (now (out .exit)) (q .at)) ⌝ }
 {
     let tape = r.tape;
     if tape.used == 0 {

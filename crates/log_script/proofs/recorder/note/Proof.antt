@@ -1,6 +1,6 @@
 use borrow.Author.Tests.{not-true, not-false}
 use denote.Ref.{now}
-use Rattle.log_script.proofs.Notes.{note-one, note-two}
+use Rattle.log_script.proofs.Notes.{entry-short, note-one, note-two}
 use borrow.Author.Needs.{needs}
 use Rattle.log_script.proofs.recorder.note.Statement.{statement}
 use Rattle.log_script.proofs.recorder.note.Tie as tie
@@ -34,7 +34,7 @@ returns-2 c =
     let a = c .before .before .before .before .before .before .before .before .before .before .before .before .before .before .before .before .before .before .before .before .args in
     let f = c .before .before .before .before .before .before .before .before .before .before .before .before .before .before .before .put-entry in
     let t = c .before .before .before .before .before .before .before .before .turn-block in
-    note-two (a .r) (now (a .block)) (now (a .out)) _ (f .result) _ (f .ensures) (t .result) _ _ (t .ensures) _ _ (c .before .before .put-entry2 .ensures) (not-false _ (c .before .before .before .before .before .before .before .before .before .before .before .if1 .left))
+    note-two (a .r) (now (a .block)) (now (a .out)) _ (f .result) _ (f .ensures) (t .result) _ _ (t .ensures) _ _ (c .before .before .put-entry2 .ensures) (entry-short (a .e) (now (a .octets))) (not-false _ (c .before .before .before .before .before .before .before .before .before .before .before .if1 .left))
 
 pub note-spec : {M : Type 1} → statement M
 note-spec =

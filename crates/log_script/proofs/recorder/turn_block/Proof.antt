@@ -1,5 +1,5 @@
 use denote.Ref.{now}
-use Rattle.log_script.proofs.Notes.{leaves-by}
+use Rattle.log_script.proofs.Notes.{turns-by}
 use borrow.Author.Needs.{needs}
 use Rattle.log_script.proofs.recorder.turn_block.Statement.{statement}
 use Rattle.log_script.proofs.recorder.turn_block.Tie as tie
@@ -37,7 +37,7 @@ same-length-2 c = search needs
 returns : tie.Need-returns
 returns c =
     let a = c .before .before .before .before .before .before .before .before .before .before .before .before .before .before .before .before .args in
-    leaves-by (a .r) (now (a .block)) (now (a .out)) _ _ (c .before .before .before .before .before .before .before .before .before .before .before .finish .ensures) _ _ (c .before .before .before .before .before .before .put-text .ensures) _ (c .before .before .f .given .1) _ (c .at-tape .ensures)
+    turns-by (a .r) (now (a .block)) (now (a .out)) _ _ (c .before .before .before .before .before .before .before .before .before .before .before .finish .ensures) _ _ (c .before .before .before .before .before .before .put-text .ensures) _ (c .before .before .f .given .1) _ (c .at-tape .ensures)
 
 same-length-3 : tie.Need-same-length-3
 same-length-3 c = search needs
@@ -48,7 +48,7 @@ same-length-4 c = search needs
 returns-2 : tie.Need-returns-2
 returns-2 c =
     let a = c .before .before .before .before .before .before .before .before .before .before .before .before .before .before .before .args in
-    leaves-by (a .r) (now (a .block)) (now (a .out)) _ _ (c .before .before .before .before .before .before .before .before .before .before .finish .ensures) _ _ (c .before .before .before .before .before .put-text .ensures) _ (c .before .enum-told .given .1) _ (c .stopped .ensures)
+    turns-by (a .r) (now (a .block)) (now (a .out)) _ _ (c .before .before .before .before .before .before .before .before .before .before .finish .ensures) _ _ (c .before .before .before .before .before .put-text .ensures) _ (c .before .enum-told .given .1) _ (c .stopped .ensures)
 
 same-length-5 : tie.Need-same-length-5
 same-length-5 c = search needs
@@ -59,7 +59,7 @@ same-length-6 c = search needs
 returns-3 : tie.Need-returns-3
 returns-3 c =
     let a = c .before .before .before .before .before .before .before .before .before .before .before .before .before .before .before .args in
-    leaves-by (a .r) (now (a .block)) (now (a .out)) _ _ (c .before .before .before .before .before .before .before .before .before .before .finish .ensures) _ _ (c .before .before .before .before .before .put-text .ensures) _ (c .before .enum-told2 .given .1) _ (c .stopped2 .ensures)
+    turns-by (a .r) (now (a .block)) (now (a .out)) _ _ (c .before .before .before .before .before .before .before .before .before .before .finish .ensures) _ _ (c .before .before .before .before .before .put-text .ensures) _ (c .before .enum-told2 .given .1) _ (c .stopped2 .ensures)
 
 pub turn-block-spec : {M : Type 1} → statement M
 turn-block-spec =
