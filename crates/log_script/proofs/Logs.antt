@@ -1,10 +1,10 @@
 -- What the lines of a script leave is the log of its records, and it plays as the calls went (02, L6). Assumes nothing.
 use Prim.Native.Nat.{ℕ, _≤_}
-use mathlib.Core.Path.{_≡_, refl, sym, ap, _∙_}
+use mathlib.Core.Path.{_≡_, refl, sym, ap, subst, _∙_}
 use mathlib.Core.Bool.{Bool, true, false}
 use mathlib.Core.List.{List, [], _∷_, _++_}
 use native.Mathlib.Omega.{arith}
-use lib.Dec.{T}
+use lib.Dec.{T, eqb}
 use lib.ListN.{length, drop}
 use Rattle.text.specs.Text.{pick, wordEnd}
 use Rattle.link.specs.Tests.{below}
@@ -15,10 +15,13 @@ use Rattle.ground_answer.specs.declared.fresh.Opened.{Opened}
 use Rattle.ground_answer.specs.Record.{fresh}
 use Rattle.ground_answer.specs.Fresh.{opened}
 use Rattle.script.specs.Lines.{isSet}
+use Rattle.script.specs.Replies.{Reply, playReply, setReply}
+use Rattle.script.specs.Replies as script
+use Rattle.bench_line.specs.Lines.{parsedLine}
 use Rattle.bench_line.specs.Settings.{settingsIn}
 use Rattle.bench_line.specs.declared.settings.Settings.{Settings}
 use Rattle.bench.specs.declared.reply.Setup.{Setup}
-use Rattle.bench.specs.Replies.{lineReply}
+use Rattle.bench.specs.Replies.{groundBench, openReply, settingsReply, lineReply}
 use Rattle.log.specs.declared.Appended.{Appended}
 use Rattle.log.specs.declared.Appended.the-variants.{Wrote, Full, Ended, Refused}
 use Rattle.log.specs.Block.{BLOCKS}
@@ -30,7 +33,7 @@ use Rattle.log_play.specs.Steps.{stepOf}
 use Rattle.log_play.specs.Records.{recordsOf, answersOf}
 use Rattle.log_play.specs.Plays.{blank}
 use Rattle.log_play.proofs.Recorded as played
-use Rattle.log_script.specs.Heard.{lineKept, heardLine}
+use Rattle.log_script.specs.Heard.{callKept, settingsKept, setKept, lineKept, heardLine}
 use Rattle.log_script.specs.Notes.{Desk, desk, ends, noteOn, keptOn, lineOn}
 use Rattle.log_script.specs.Scripts.{notedAll, scriptKept, newDesk, linesOn, callsIn}
 use Rattle.log_script.proofs.Promises.{ten-settings, script-kept}
@@ -88,6 +91,37 @@ lines-onward (line ∷ lines) d =
 pub script-log : (b : Setup) (block : List ℕ) (lines : List (List ℕ))
     → linesOn (newDesk b block) lines .log ≡ noteAll (recorder (tape 0 0) block []) (scriptKept b lines)
 script-log b block lines = lines-onward lines (newDesk b block)
+
+-- ---- before the settings a line that is not kept leaves all as it was
+abbrev Unset : Setup → List Rec → Reply Setup → Type 0
+Unset b k x = k ≡ [] → x .box ≡ b
+
+either : (b : Setup) (c : Bool) (j k : List Rec) (x y : Reply Setup) → Unset b j x → Unset b k y → Unset b (pick c j k) (pick c x y)
+either b true j k x y p q = p
+either b false j k x y p q = q
+
+set-unset : (b : Setup) (line : List ℕ) → Unset b (setKept line) (setReply groundBench b line)
+unfolding setKept settingsKept setReply settingsReply openReply
+set-unset b line =
+    let s = settingsIn (drop (wordEnd line) line) in
+    either b (isSet line) _ _ _ _
+    (either b (s .good) _ _ _ _
+    (either b (eqb (opened (s .list) .refusal) 0) _ _ _ _ (λ e. absurd (omega (arith, ap (λ (k : List Rec). length k) e))) (λ e. refl))
+    (λ e. refl))
+    (λ e. refl)
+
+unset : (b : Setup) (line : List ℕ) → b .ready ≡ false → Unset b (lineKept b line) (lineReply b line)
+unfolding lineKept script.lineReply
+unset b line new =
+    subst (λ (c : Bool). Unset b (pick c (callKept (b .link) (parsedLine line)) (setKept line)) (pick c (playReply groundBench b (parsedLine line)) (setReply groundBench b line)))
+    (sym new) (set-unset b line)
+
+pub line-before : (b : Setup) (block line : List ℕ) (lines : List (List ℕ)) → b .ready ≡ false → lineKept b line ≡ []
+    → linesOn (newDesk b block) (line ∷ lines) ≡ linesOn (newDesk b block) lines
+unfolding lineOn
+line-before b block line lines new none =
+    ap (λ (k : List Rec). linesOn (keptOn (newDesk (lineReply b line .box) block) k) lines) none
+    ∙ ap (λ (x : Setup). linesOn (newDesk x block) lines) (unset b line new none)
 
 -- ---- a line with good settings, and what follows it: the blocks play as its calls went
 good-settings : (s : List ℕ) → opened s .refusal ≡ 0 → T (below timers (settingOk s))
