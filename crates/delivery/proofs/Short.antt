@@ -1,6 +1,6 @@
 -- What is said of a letter is never long. Assumes nothing.
 use mathlib.Core.Path.{_≡_, refl}
-use mathlib.Core.Bool.{Bool, true}
+use mathlib.Core.Bool.{true}
 use mathlib.Core.List.{List, [], _∷_, _++_}
 use Prim.Native.Nat.{ℕ, _≤_}
 use native.Mathlib.Nat.{le-trans, min-le-right}
@@ -20,7 +20,6 @@ use Rattle.air_line.specs.AnswerText as air
 use Rattle.ground_answer.specs.declared.answer.Said as groundSaid
 use Rattle.air_answer.specs.declared.answer.Said as airSaid
 use Rattle.channel.specs.declared.Letter.{Letter}
-use Rattle.channel.specs.Channel.{octetsIn}
 use Rattle.delivery.specs.Hearing.{Carried, came, HEARD-MOST, Carries}
 use Rattle.delivery.specs.declared.hear.Carried as code
 use Rattle.delivery.specs.Deliveries.{heardWords, wordFor, headText, LETTER-MOST}

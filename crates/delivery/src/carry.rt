@@ -8,7 +8,6 @@ use channel::pass;
 use script::answer::put_spaced;
 use text::put_byte;
 use text::put_decimal;
-use text::put_text;
 use text::words::put_word;
 use world::state::World;
 ghost use mathlib.Core.Path.{_≡_};

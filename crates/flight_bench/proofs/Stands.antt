@@ -1,13 +1,12 @@
 -- How long a line and the ending are, and that they stand whole on a page that has room. Assumes nothing.
-use mathlib.Core.Path.{_≡_}
 use mathlib.Core.Bool.{false}
 use mathlib.Core.List.{List, [], _∷_, _++_}
 use Prim.Native.Nat.{ℕ, _+_, _*_, _≤_}
 use native.Mathlib.Omega.{arith}
 use lib.Dec.{lit≤}
-use lib.ListN.{length, take, getD, length-append}
+use lib.ListN.{length, getD, length-append}
 use Rattle.text.specs.Letters.{ascii}
-use Rattle.text.specs.Text.{pick, decimal}
+use Rattle.text.specs.Text.{decimal}
 use Rattle.text.specs.Page.{Page, page, Writes}
 use Rattle.text.specs.Words.{wordAt}
 use Rattle.text.proofs.Laws.{decimal-length}

@@ -1,5 +1,5 @@
 -- What a line keeps, and a flight. Assumes nothing.
-use mathlib.Core.Path.{_≡_, refl}
+use mathlib.Core.Path.{_≡_}
 use mathlib.Core.Bool.{Bool, true, false}
 use mathlib.Core.List.{List, [], _∷_}
 use Prim.Native.Nat.{ℕ, zero, suc, _+_}
@@ -33,7 +33,7 @@ use Rattle.delivery.specs.Deliveries.{onto, without, carriedWith, carriedOne, c
 use Rattle.flight_line.specs.Users.{isUser, refused}
 use Rattle.flight_line.specs.GroundUsers as groundUsers
 use Rattle.flight_line.specs.AirUsers as airUsers
-use Rattle.flight_line.specs.Boths.{Both, bothReply, bothWith, bothHear, unlessRefused, elapseReply, cutReply}
+use Rattle.flight_line.specs.Boths.{bothReply, bothWith, bothHear, unlessRefused, elapseReply, cutReply}
 use Rattle.flight_line.specs.Lines.{ended, refusedLine, bothReady, restOf, countIn, flightWords, groundLine, airLine, elapseLine, carryCount, carryLine, thenLost, cutLine, otherLine, flightAs, flightLine}
 use Rattle.flight_promises.specs.Told.{groundAsks, airAsks, groundUses, airUses, bothTold, elapseTold, numberTold, cutTold, letterTold, carriedTold, countTold, deliverTold, toldAs, lineTold}
 use Rattle.flight_promises.specs.Flights.{ofGround, ofAir, groundMade, airMade, Kept, Flights}

@@ -5,7 +5,7 @@ use mathlib.Core.List.{List, [], _∷_, _++_}
 use Prim.Native.Nat.{ℕ, zero, suc, _+_, _≤_}
 use native.Mathlib.Nat.{le-refl}
 use native.Mathlib.Omega.{arith}
-use borrow.Author.Tests.{leb-true, eqb-true}
+use borrow.Author.Tests.{leb-true}
 use lib.Dec.{eqb, ltb, leb}
 use lib.ListN.{length, take, drop, length-drop}
 use Rattle.text.specs.Text.{pick, wordEnd}
@@ -32,7 +32,7 @@ use Rattle.delivery.specs.Deliveries.{without, carriedWith, carriedOne, carried
 use Rattle.flight_line.specs.Users.{isUser, refused}
 use Rattle.flight_line.specs.GroundUsers as ofGround
 use Rattle.flight_line.specs.AirUsers as ofAir
-use Rattle.flight_line.specs.Boths.{Both, bothWith, bothHear, unlessRefused, elapseReply, cutReply}
+use Rattle.flight_line.specs.Boths.{bothWith, bothHear, unlessRefused, elapseReply, cutReply}
 use Rattle.flight_line.specs.Lines.{ended, refusedLine, bothReady, restOf, countOf, countIn, flightWords, groundLine, airLine, elapseLine, carryCount, carryLine, thenLost, cutLine, otherLine, flightAs, flightLine, worldOn}
 use Rattle.flight_promises.specs.Fitting.{letterFits, allFit}
 use Rattle.flight_promises.specs.Told.{groundAsks, airAsks, groundUses, airUses, bothTold, elapseTold, numberTold, cutTold, letterTold, carriedTold, countTold, deliverTold, toldAs, lineTold, toldOn}

@@ -13,7 +13,7 @@ use Rattle.text.specs.Text.{pick}
 use Rattle.script.specs.Entries.{goes, restOf}
 use Rattle.channel.specs.declared.Letter.{Letter}
 use Rattle.channel.specs.Channel.{letterOf, pushed}
-use Rattle.sending.specs.Ways.{Way, way, kindOf, numberFor, sentAs, sentEntry, sentAll}
+use Rattle.sending.specs.Ways.{Way, kindOf, numberFor, sentAs, sentEntry, sentAll}
 use Rattle.flight_promises.specs.Sendings.{lettersOf, AllSent}
 
 -- what is under way grows
