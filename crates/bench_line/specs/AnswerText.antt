@@ -1,4 +1,4 @@
--- An answer as text (01, "Bench examples"), in the words of the ground: "`start-req`, `data-req`, `end_req`, `abort-req` .. `ind` .. `ind abort n`,
+-- An answer as text (01, "Bench examples"), in the words of the ground: "`start-req`, `data-req`, `end-req`, `abort-req` .. `ind` .. `ind abort n`,
 -- `ind peer-abort`, `late`."
 use Rattle.std.specs.Prelude.{List, [], ◌∷◌, ℕ, ◌≤◌, length, take}
 use Rattle.text.specs.Letters.{ascii}

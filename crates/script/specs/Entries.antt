@@ -1,4 +1,4 @@
--- An answer as text (01, "Bench examples"): "timers after `start` and `stop`; HEX after `start-req`, `data-req`, `end_req`, `abort-req` if a PDU goes, and after
+-- An answer as text (01, "Bench examples"): "timers after `start` and `stop`; HEX after `start-req`, `data-req`, `end-req`, `abort-req` if a PDU goes, and after
 -- `ind` (octets received; confirms too); `ind abort n`". Over the words of any side.
 use Rattle.std.specs.Prelude.{◌≡◌, Bool, true, List, [], ◌∷◌, ◌++◌, ℕ, ◌-◌, ◌≤◌, eqb, leb, ltb, length, take}
 use Rattle.text.specs.Letters.{ascii}
