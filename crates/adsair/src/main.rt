@@ -1,4 +1,6 @@
 // Plays an air script from standard input, for the aircraft's end of a link, and writes its trace on standard output.
+#![tactic(auto)]
+
 fn main() {
     air_bench::player::play();
 }

@@ -1,5 +1,5 @@
 // The flight log, in a block that the host keeps.
-ghost use Rattle.log.specs.Record.{rec};
+ghost use Rattle.log_blocks.specs.Record.{rec};
 ghost use Rattle.host_log.specs.Recording.{block_opened, block_appended, block_finished, Keeps};
 ghost use Rattle.host_log.specs.Playing.{block_played};
 

@@ -14,6 +14,7 @@ pub const END_RESPONSE: u8 = 3;
 
 // `refusal` is 0 for a call that is accepted. `reason` is that of an abort indication. `sent` goes with the first of 1 to 4 among the actions.
 #[derive(Drop)]
+#[derive(Clone, Copy)]
 pub struct Said {
     pub refusal: u8,
     pub reason: u32,

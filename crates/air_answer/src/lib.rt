@@ -1,4 +1,6 @@
 // The air link's record, and what a call answers: which event a PDU is, the octets of a PDU that goes, refusals, the abort rule, the clock, a new link.
+#![tactic(auto)]
+
 pub mod abort;
 pub mod answer;
 pub mod clock;

@@ -12,6 +12,7 @@ use link::watch::{all_idle, setting_ok, states_ok, timers_ok};
 
 // EM3's setting; seconds left in watch order, 0 left for a timer that does not run; the states of DC, EC, PC, EM and LI.
 #[derive(Drop)]
+#[derive(Clone, Copy)]
 pub struct AirLink {
     pub setting: u32,
     pub left: [u32; TIMERS],

@@ -13,6 +13,7 @@ pub const ROOM: usize = 115;
 
 // The first n octets; the others are 0.
 #[derive(Drop)]
+#[derive(Clone, Copy)]
 pub struct Sent {
     pub n: usize,
     pub octets: [u8; ROOM],

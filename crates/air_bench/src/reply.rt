@@ -19,6 +19,7 @@ use text::{least, put_text};
 
 // The box at the bench: `ready` once it has its setting, and its link from then on.
 #[derive(Drop)]
+#[derive(Clone, Copy)]
 pub struct Setup {
     pub ready: bool,
     pub link: AirLink,

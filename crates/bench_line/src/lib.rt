@@ -1,4 +1,6 @@
 // A line of a script: the call that it makes, and the answer to it as text.
+#![tactic(auto)]
+
 pub mod answer;
 pub mod line;
 pub mod settings;

@@ -1,4 +1,6 @@
 // What is under way between two ends, in the order in which it was sent. Knows nothing of links.
+#![tactic(auto)]
+
 ghost use Rattle.std.specs.Prelude.{◌≡◌, [], ◌≤◌, length, take, drop};
 ghost use Rattle.std.proofs.lemmas.List.Edits.{sets};
 ghost use Rattle.channel.specs.Channel.{no_octets, blank, letter_of, held_in, pushed, oldest_of};
@@ -13,6 +15,7 @@ pub const SLOTS: usize = 17;
 
 // A letter goes `up` to the aircraft, or down to the ground; it is of a dialogue by its number, and of a kind; its first n octets are a PDU, the others are 0.
 #[derive(Drop)]
+#[derive(Clone, Copy)]
 pub struct Letter {
     pub up: bool,
     pub number: u64,
@@ -23,6 +26,7 @@ pub struct Letter {
 
 // The first n letters are under way, the oldest first.
 #[derive(Drop)]
+#[derive(Clone, Copy)]
 pub struct Channel {
     pub n: usize,
     pub letters: [Letter; SLOTS],

@@ -16,6 +16,7 @@ pub const LATE: u8 = 8;
 
 // `refusal` is 0 for a call that is accepted. `reason` is that of an abort indication. `sent` goes with the first request among the actions.
 #[derive(Drop)]
+#[derive(Clone, Copy)]
 pub struct Said {
     pub refusal: u8,
     pub reason: u32,

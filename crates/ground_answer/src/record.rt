@@ -14,6 +14,7 @@ use std::num::wrapping_add_u32;
 
 // Settings and seconds left in watch order, 0 left for a timer that does not run; the states of DC, EC, PC, EM and LI; the intervals of the periodic contract.
 #[derive(Drop)]
+#[derive(Clone, Copy)]
 pub struct Link {
     pub setting: [u32; TIMERS],
     pub left: [u32; TIMERS],

@@ -11,6 +11,7 @@ pub const SENT_MOST: usize = 17;
 
 // The first n octets; the others are 0.
 #[derive(Drop)]
+#[derive(Clone, Copy)]
 pub struct Sent {
     pub n: usize,
     pub octets: [u8; SENT_MOST],

@@ -1,4 +1,6 @@
 // The clock call on the host's one link record, which is lent and changed in place. A thin crate: the record's fields can change below without touching it.
+#![tactic(auto)]
+
 ghost use Rattle.std.specs.Prelude.{◌≡◌};
 ghost use Rattle.ground_answer.specs.Clock.{elapsed};
 

@@ -8,6 +8,7 @@ use link::moves::{IDLE, Move, OF_PC, PC};
 
 // Seconds of the interval asked for and of the one in force; 0 where there is none.
 #[derive(Drop)]
+#[derive(Clone, Copy)]
 pub struct Intervals {
     pub asked: u32,
     pub force: u32,

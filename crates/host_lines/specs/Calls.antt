@@ -11,7 +11,7 @@ use Rattle.ground.specs.declared.call.Call.TheVariants.{Request, UserAbort, Elap
 use Rattle.host_numbers.specs.UplinkNumbers.{ground_at}
 use Rattle.host_numbers.specs.DownlinkNumbers.{air_at}
 use Rattle.host_record.specs.Hosting.{Done, Opening, hosted, made}
-use Rattle.log.specs.Record.{rec}
+use Rattle.log_blocks.specs.Record.{rec}
 use Rattle.host_log.specs.Recording.{Kept, block_opened, block_appended, block_finished}
 use Rattle.host_log.specs.Playing.{block_played}
 use Rattle.adschost.specs.Flatness.{number_of, length_of}

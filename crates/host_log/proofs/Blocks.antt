@@ -10,9 +10,9 @@ use lib.Seq.{sets, sets-eq, take_at}
 use Rattle.octets.specs.Octets.{quad, pair, word_at, pair_at, zeros}
 use Rattle.octets.specs.laws.Numbers.{quad-word, pair-word}
 use Rattle.octets.specs.laws.Runs.{length-zeros}
-use Rattle.log.specs.Block.{BLOCKS, block_of, payload}
-use Rattle.log.specs.Record.{Rec, noted, rec_octets}
-use Rattle.log.proofs.Seals.{fitting-is}
+use Rattle.log_blocks.specs.Block.{BLOCKS, block_of, payload}
+use Rattle.log_blocks.specs.Record.{Rec, noted, rec_octets}
+use Rattle.log_blocks.proofs.Seals.{fitting-is}
 use Rattle.host_log.specs.Recording.{block_opened, tape_in, is_open, fields_good, record_put, block_appended, block_finished}
 
 -- ---- a run of stores behind what stays

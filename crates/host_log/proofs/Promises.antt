@@ -19,14 +19,14 @@ use Rattle.bench.specs.Replies.{ready_setup}
 use Rattle.host_record.specs.RecordLayout.{RECORD-OCTETS, link_of, record_octets}
 use Rattle.host_record.specs.laws.Back.{record-back}
 use Rattle.host_record.proofs.Puts.{length-record}
-use Rattle.log.specs.Block.{BLOCK, ROOM, BLOCKS, block_of, payload, all_zero, judged}
-use Rattle.log.specs.Log.{All, got, bad, joined, read_block}
-use Rattle.log.specs.Record.{Rec, Good, noted, rec_octets, form_one}
-use Rattle.log.proofs.Blocks.{judged-good}
-use Rattle.log.proofs.FormOne.{lawful-one}
-use Rattle.log.proofs.Packs.{block_reads}
-use Rattle.log.proofs.Promises.{changed-refused}
-use Rattle.log.proofs.Tests.{all-zeros}
+use Rattle.log_blocks.specs.Block.{BLOCK, ROOM, BLOCKS, block_of, payload, all_zero, judged}
+use Rattle.log_blocks.specs.Log.{All, got, bad, joined, read_block}
+use Rattle.log_blocks.specs.Record.{Rec, Good, noted, rec_octets, form_one}
+use Rattle.log_blocks.proofs.Blocks.{judged-good}
+use Rattle.log_blocks.proofs.FormOne.{lawful-one}
+use Rattle.log_blocks.proofs.Packs.{block_reads}
+use Rattle.log_blocks.proofs.Promises.{changed-refused}
+use Rattle.log_blocks.proofs.Tests.{all-zeros}
 use Rattle.log_play.specs.Plays.{blank, play_block, played_in}
 use Rattle.host_log.specs.Recording.{Kept, kept, Keeps, empty_block, block_opened, is_open, fields_good, record_put, block_appended, block_finished, appended_all, host_block}
 use Rattle.host_log.specs.Playing.{box_in, box_good, box_out, played_out, block_played}

@@ -20,17 +20,17 @@ use Rattle.script.specs.Lines.{shapes_of}
 use Rattle.bench_line.specs.Words.{ground_words}
 use Rattle.ground_answer.specs.Record.{good}
 use Rattle.host_record.specs.RecordLayout.{RECORD-OCTETS, link_of, saved}
-use Rattle.log.specs.Block.{BLOCKS, ROOM, all_zero, payload, block_of}
-use Rattle.log.specs.Record.{Rec, rec, noted, rec_octets}
-use Rattle.log.specs.Tapes.{tape, written, fitting, appended, appended_to, follows, finished, finished_to, Appends, Finishes}
-use Rattle.log.specs.declared.Tape.{Tape}
-use Rattle.log.specs.contracts.Appended as appended-of
-use Rattle.log.specs.contracts.Finished as finished-of
+use Rattle.log_blocks.specs.Block.{BLOCKS, ROOM, all_zero, payload, block_of}
+use Rattle.log_blocks.specs.Record.{Rec, rec, noted, rec_octets}
+use Rattle.log_blocks.specs.Tapes.{tape, written, fitting, appended, appended_to, follows, finished, finished_to, Appends, Finishes}
+use Rattle.log_blocks.specs.declared.Tape.{Tape}
+use Rattle.log_blocks.specs.contracts.Appended as appended-of
+use Rattle.log_blocks.specs.contracts.Finished as finished-of
 use Rattle.script.specs.contracts.line.Held as held_of
-use Rattle.log.specs.declared.Appended.{Appended}
-use Rattle.log.specs.declared.Appended.TheVariants.{Wrote, Full, Ended, Refused}
-use Rattle.log.specs.declared.Finished.{Finished}
-use Rattle.log.specs.declared.Finished.TheVariants.{Next, Last, Unfit}
+use Rattle.log_blocks.specs.declared.Appended.{Appended}
+use Rattle.log_blocks.specs.declared.Appended.TheVariants.{Wrote, Full, Ended, Refused}
+use Rattle.log_blocks.specs.declared.Finished.{Finished}
+use Rattle.log_blocks.specs.declared.Finished.TheVariants.{Next, Last, Unfit}
 use Rattle.log_play.specs.Steps.{field_in, SETTINGS-OCTETS}
 use Rattle.log_play.specs.Plays.{play_block, played_in}
 use Rattle.log_play.specs.declared.block.Played.{Played}

@@ -5,7 +5,7 @@ use Rattle.link.specs.Tests.{pick}
 use Rattle.ground_answer.specs.Record.{good}
 use Rattle.bench.specs.declared.reply.Setup.{Setup}
 use Rattle.host_record.specs.RecordLayout.{RECORD-OCTETS, link_of, record_octets}
-use Rattle.log.specs.Block.{all_zero}
+use Rattle.log_blocks.specs.Block.{all_zero}
 use Rattle.log_play.specs.Plays.{play_block, played_in}
 use Rattle.log_play.specs.declared.block.Played.{Played}
 use Rattle.host_log.specs.Recording.{Kept, kept}

@@ -7,10 +7,10 @@ use Rattle.octets.specs.Octets.{quad, pair, word_at, pair_at, zeros}
 use Rattle.script.specs.Fields.{Field, garbled, holds, counts}
 use Rattle.script.specs.Lines.{shapes_of}
 use Rattle.bench_line.specs.Words.{ground_words}
-use Rattle.log.specs.Block.{BLOCK, ROOM, BLOCKS, block_of, payload}
-use Rattle.log.specs.Record.{Rec, noted, rec_octets}
-use Rattle.log.specs.Tapes.{tape, fitting}
-use Rattle.log.specs.declared.Tape.{Tape}
+use Rattle.log_blocks.specs.Block.{BLOCK, ROOM, BLOCKS, block_of, payload}
+use Rattle.log_blocks.specs.Record.{Rec, noted, rec_octets}
+use Rattle.log_blocks.specs.Tapes.{tape, fitting}
+use Rattle.log_blocks.specs.declared.Tape.{Tape}
 use Rattle.log_play.specs.Steps.{field_in, word_of, SETTINGS-OCTETS}
 
 -- the number that a call gives, and the block after it

@@ -6,7 +6,7 @@ ghost use Rattle.host_log.specs.Playing.{box_in, box_good, block_played};
 use bench::reply::Setup;
 use ground_answer::record::is_good;
 use host_record::record::{RECORD, load, save};
-use log::all_zero;
+use log_blocks::all_zero;
 use log_play::block::play_block;
 use refusals::BAD_RECORD;
 

@@ -1,10 +1,10 @@
 // A block that is open says by itself how far it is written: its number and its payload's length stand in it.
 ghost use Rattle.std.specs.Prelude.{◌≡◌};
-ghost use Rattle.log.specs.Record.{rec};
+ghost use Rattle.log_blocks.specs.Record.{rec};
 ghost use Rattle.host_log.specs.Recording.{tape_in, is_open, fields_good, block_opened, block_appended, block_finished, Keeps};
 
 use bench_line::line::shape_of;
-use log::{Appended, BLOCK, BLOCKS, Finished, Tape, append, finish, fits};
+use log_blocks::{Appended, BLOCK, BLOCKS, Finished, Tape, append, finish, fits};
 use log_play::record::{SETTINGS, hold_record};
 use octets::{put_pair, put_word, put_zeros, read_pair, read_word};
 use refusals::{NO_ROOM, NOT_READABLE, OUT_OF_RANGE};

@@ -1,4 +1,6 @@
 // PDUs as flat lists of numbers, for a host that has no enums, and back. Missing numbers count as 0.
+#![tactic(auto)]
+
 mod changes;
 pub mod copy;
 pub mod downlink;

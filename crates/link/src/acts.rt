@@ -5,6 +5,7 @@ ghost use Rattle.link.specs.Acts.{acts, pushed};
 
 // The first n of the list; the others are 0.
 #[derive(Drop)]
+#[derive(Clone, Copy)]
 pub struct Acts {
     pub n: usize,
     pub list: [u8; 8],

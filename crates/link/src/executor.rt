@@ -12,6 +12,7 @@ use crate::moves::{IDLE, Move, NO_TIMER, TIMERS};
 
 // Seconds left in watch order, the modules' states, and what was done, in order.
 #[derive(Drop)]
+#[derive(Clone, Copy)]
 pub struct Step {
     pub left: [u32; TIMERS],
     pub at: [u8; 5],

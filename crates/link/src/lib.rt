@@ -1,4 +1,6 @@
 // The machinery of a link: moves, lists of actions, the executor, the watch rule, the clock. Knows no table, no record and no PDU.
+#![tactic(auto)]
+
 pub mod actions;
 pub mod acts;
 pub mod clock;

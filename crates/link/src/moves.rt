@@ -43,6 +43,7 @@ pub const REFUSES: u8 = 1;
 pub const ABORTS: u8 = 3;
 
 #[derive(Drop)]
+#[derive(Clone, Copy)]
 pub struct Move {
     pub fate: u8,
     pub stop: u8,

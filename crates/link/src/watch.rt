@@ -8,6 +8,7 @@ use crate::moves::{IDLE, TIMERS};
 
 // The module of each timer, the first and the last of its states, and the last state of EM at which it runs.
 #[derive(Drop)]
+#[derive(Clone, Copy)]
 pub struct Watch {
     pub who: [u8; TIMERS],
     pub first: [u8; TIMERS],

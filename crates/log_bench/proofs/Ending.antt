@@ -6,12 +6,12 @@ use mathlib.Core.List.{List, [], ◌∷◌}
 use native.Mathlib.Omega.{arith}
 use Rattle.ground_answer.specs.declared.answer.Answer.{Answer}
 use Rattle.bench.specs.declared.reply.Setup.{Setup}
-use Rattle.log.specs.Block.{judged, payload}
-use Rattle.log.specs.Log.{Read, got, bad, unless, records_of, read_block}
-use Rattle.log.specs.Places.{from}
-use Rattle.log.specs.Play.{Trace, with_records, play}
-use Rattle.log.specs.Record.{Rec, form_one}
-use Rattle.log.proofs.Walks.{all_read}
+use Rattle.log_blocks.specs.Block.{judged, payload}
+use Rattle.log_blocks.specs.Log.{Read, got, bad, unless, records_of, read_block}
+use Rattle.log_blocks.specs.Places.{from}
+use Rattle.log_blocks.specs.Play.{Trace, with_records, play}
+use Rattle.log_blocks.specs.Record.{Rec, form_one}
+use Rattle.log_blocks.proofs.Walks.{all_read}
 use Rattle.log_play.specs.Steps.{step_of}
 use Rattle.log_play.specs.Plays.{play_block, played_in}
 use Rattle.log_play.specs.declared.block.Played.{Played}

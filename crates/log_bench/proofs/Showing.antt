@@ -11,11 +11,11 @@ use Rattle.text.proofs.Pages.{after}
 use Rattle.script.specs.Trace.{bumped, Adds}
 use Rattle.bench_line.specs.AnswerText.{answer_text, Answers}
 use Rattle.bench.specs.declared.reply.Setup.{Setup}
-use Rattle.log.specs.Log.{Read, got, bad, onto, records_of}
-use Rattle.log.specs.Record.{Rec, rec, form_one}
-use Rattle.log.specs.Places.{end_of, found_at, from}
-use Rattle.log.specs.declared.Found.TheVariants.{Record, End, Unreadable}
-use Rattle.log.proofs.Walks.{walk_end, walk-unreadable, walk_more}
+use Rattle.log_blocks.specs.Log.{Read, got, bad, onto, records_of}
+use Rattle.log_blocks.specs.Record.{Rec, rec, form_one}
+use Rattle.log_blocks.specs.Places.{end_of, found_at, from}
+use Rattle.log_blocks.specs.declared.Found.TheVariants.{Record, End, Unreadable}
+use Rattle.log_blocks.proofs.Walks.{walk_end, walk-unreadable, walk_more}
 use Rattle.log_play.specs.Plays.{stepped_by}
 use Rattle.log_play.specs.declared.record.Stepped.{Stepped}
 use Rattle.log_play.proofs.Walks.{data-place}

@@ -12,9 +12,9 @@ use Rattle.script.specs.Trace.{end_text}
 use Rattle.ground_answer.specs.declared.answer.Answer.{Answer}
 use Rattle.bench.specs.Replies.{begun}
 use Rattle.bench.specs.declared.reply.Setup.{Setup}
-use Rattle.log.specs.Log.{Read, got, bad, read_block}
-use Rattle.log.specs.Record.{Rec, form_one}
-use Rattle.log.specs.Play.{Trace, play}
+use Rattle.log_blocks.specs.Log.{Read, got, bad, read_block}
+use Rattle.log_blocks.specs.Record.{Rec, form_one}
+use Rattle.log_blocks.specs.Play.{Trace, play}
 use Rattle.log_play.specs.Steps.{step_of}
 use Rattle.log_bench.specs.Shown.{count_on, lines_on}
 

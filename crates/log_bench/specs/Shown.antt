@@ -6,8 +6,8 @@ use Rattle.script.specs.Trace.{bumped}
 use Rattle.bench_line.specs.AnswerText.{answer_text}
 use Rattle.bench.specs.declared.reply.Setup.{Setup}
 use Rattle.bench.specs.declared.trace.Trace.{Trace}
-use Rattle.log.specs.Log.{got, records_of}
-use Rattle.log.specs.Record.{Rec, form_one}
+use Rattle.log_blocks.specs.Log.{got, records_of}
+use Rattle.log_blocks.specs.Record.{Rec, form_one}
 use Rattle.log_play.specs.Plays.{stepped_by}
 
 unfoldable pub record_reply : ℕ → Setup → Rec → Reply Setup

@@ -7,7 +7,7 @@ ghost use Rattle.log_bench.specs.Logs.{outcome, ended, Ends, Closes};
 use crate::show::show_block;
 use bench::trace::{Trace, begin};
 use libc::STDIN_FILENO;
-use log::BLOCKS;
+use log_blocks::BLOCKS;
 use log_play::block::play_block;
 use refusals::NOT_READABLE;
 use script::room::page_room;

@@ -2,13 +2,13 @@
 ghost use Rattle.std.specs.Prelude.{◌≡◌, ◌+◌, ◌≤◌, length};
 ghost use Rattle.text.specs.Page.{page};
 ghost use Rattle.script.specs.Trace.{bumped, Adds, Stands};
-ghost use Rattle.log.specs.Places.{end_of, from};
-ghost use Rattle.log.specs.Record.{rec};
+ghost use Rattle.log_blocks.specs.Places.{end_of, from};
+ghost use Rattle.log_blocks.specs.Record.{rec};
 ghost use Rattle.log_bench.specs.Shown.{record_reply, Turns, Shows};
 
 use bench::trace::Trace;
 use bench_line::answer::put_answer;
-use log::{Found, record_at};
+use log_blocks::{Found, record_at};
 use log_play::record::play_record;
 use script::trace::bump;
 use text::{least, put_byte, put_decimal};

@@ -23,7 +23,7 @@ use Rattle.bench.specs.declared.reply.Setup.{Setup}
 use Rattle.host_record.specs.RecordLayout.{RECORD-OCTETS, link_of, record_octets}
 use Rattle.host_record.specs.AnswerLayout.{ANSWER-OCTETS, answer_octets}
 use Rattle.host_record.specs.Hosting.{Done, left, told, hosted, spelled, Serves}
-use Rattle.log.specs.Record.{Rec, rec}
+use Rattle.log_blocks.specs.Record.{Rec, rec}
 use Rattle.log_play.specs.Steps.{field_in, call_in, call_step, accepted, open_step, step_of, beside_of, came_with}
 use Rattle.log_play.specs.Plays.{stays, step_in, stepped_by}
 

@@ -25,8 +25,8 @@ use Rattle.script.specs.Lines.{Parsed, unread, makes, shapes_of, call_of}
 use Rattle.bench_line.specs.Words.{ground_words}
 use Rattle.bench_line.specs.Lines.{ground_script, request_in, octets_call}
 use Rattle.bench.specs.declared.reply.Setup.{Setup}
-use Rattle.log.specs.Record.{Rec, rec, noted}
-use Rattle.log.specs.Play.{Step}
+use Rattle.log_blocks.specs.Record.{Rec, rec, noted}
+use Rattle.log_blocks.specs.Play.{Step}
 use Rattle.log_play.specs.Steps.{field_in, word_of, call_in, call_step, accepted, settings_long, is_settings, open_step, step_of}
 
 -- what is longer than 128 octets is refused before any bit of it is read, and so is what is kept of it

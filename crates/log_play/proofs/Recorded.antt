@@ -40,16 +40,16 @@ use Rattle.ground.specs.declared.call.Call.TheVariants.{Request, UserAbort, Elap
 use Rattle.script.specs.Lines.{call_of}
 use Rattle.bench_line.specs.Lines.{request_in, octets_call, number_call}
 use Rattle.bench.specs.Replies.{ready_setup}
-use Rattle.log.specs.Log.{All}
-use Rattle.log.specs.Log as log
-use Rattle.log.specs.Record.{Good, noted, form_one}
-use Rattle.log.specs.Play.{went, trace, play, play_log}
-use Rattle.log.specs.Block.{BLOCKS}
-use Rattle.log.specs.Tapes.{tape, recorder, note_all, log_of}
-use Rattle.log.proofs.Packs.{held_all}
-use Rattle.log.proofs.Plays.{play-read}
-use Rattle.log.proofs.Recorders.{recorder-packs}
-use Rattle.log.proofs.Promises.{packed-reads}
+use Rattle.log_blocks.specs.Log.{All}
+use Rattle.log_blocks.specs.Log as log
+use Rattle.log_blocks.specs.Record.{Good, noted, form_one}
+use Rattle.log_blocks.specs.Play.{went, trace, play, play_log}
+use Rattle.log_blocks.specs.Block.{BLOCKS}
+use Rattle.log_blocks.specs.Tapes.{tape, recorder, note_all, log_of}
+use Rattle.log_blocks.proofs.Packs.{held_all}
+use Rattle.log_blocks.proofs.Plays.{play-read}
+use Rattle.log_blocks.proofs.Recorders.{recorder-packs}
+use Rattle.log_blocks.proofs.Promises.{packed-reads}
 use Rattle.log_play.specs.Steps.{field_in, call_in, call_step, accepted, SETTINGS-OCTETS, OLD-OCTETS, OLD-LI1, settings_long, is_settings, settings_of, open_answer, open_step, step_of}
 use Rattle.log_play.specs.Records.{record_of, settings_record, records_from, answers_from, records_of, answers_of, Plain, Callable}
 use Rattle.log_play.specs.Plays.{blank}

@@ -12,14 +12,14 @@ use Rattle.bench.specs.declared.reply.Setup.{Setup}
 use Rattle.refusals.specs.Refusals.{NOT-READABLE}
 use Rattle.link.specs.Tests.{pick}
 use Rattle.octets.specs.Octets.{word_at}
-use Rattle.log.specs.Block.{judged, payload}
-use Rattle.log.specs.Log.{Read, got, bad, One, one, none, cut, onto, then, records_in, records_of, read_block, unless}
-use Rattle.log.specs.Record.{Rec, rec, KEPT, rec_first, form_one}
-use Rattle.log.specs.Play.{Step, went, refused, Trace, behind, stepped, with_records, play}
-use Rattle.log.specs.Places.{end_of, found_at, from}
-use Rattle.log.specs.declared.Found.{Found}
-use Rattle.log.specs.declared.Found.TheVariants.{Record, End, Unreadable}
-use Rattle.log.proofs.Walks.{walk_end, walk-unreadable, walk_more, unread, all_read}
+use Rattle.log_blocks.specs.Block.{judged, payload}
+use Rattle.log_blocks.specs.Log.{Read, got, bad, One, one, none, cut, onto, then, records_in, records_of, read_block, unless}
+use Rattle.log_blocks.specs.Record.{Rec, rec, KEPT, rec_first, form_one}
+use Rattle.log_blocks.specs.Play.{Step, went, refused, Trace, behind, stepped, with_records, play}
+use Rattle.log_blocks.specs.Places.{end_of, found_at, from}
+use Rattle.log_blocks.specs.declared.Found.{Found}
+use Rattle.log_blocks.specs.declared.Found.TheVariants.{Record, End, Unreadable}
+use Rattle.log_blocks.proofs.Walks.{walk_end, walk-unreadable, walk_more, unread, all_read}
 use Rattle.log_play.specs.Steps.{step_of, came_with}
 use Rattle.log_play.specs.declared.block.Played.{Played}
 use Rattle.log_play.specs.declared.record.Stepped.{Stepped}

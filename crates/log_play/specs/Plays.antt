@@ -5,9 +5,9 @@ use Rattle.ground_answer.specs.declared.answer.Answer.{Answer}
 use Rattle.ground_answer.specs.Answers.{refusal}
 use Rattle.ground_answer.specs.Record.{fresh}
 use Rattle.bench.specs.declared.reply.Setup.{Setup}
-use Rattle.log.specs.Log.{Read, got, bad, read_block}
-use Rattle.log.specs.Record.{Rec, form_one}
-use Rattle.log.specs.Play.{Step, went, refused, Trace, with_records, play}
+use Rattle.log_blocks.specs.Log.{Read, got, bad, read_block}
+use Rattle.log_blocks.specs.Record.{Rec, form_one}
+use Rattle.log_blocks.specs.Play.{Step, went, refused, Trace, with_records, play}
 use Rattle.log_play.specs.Steps.{step_of, came_with}
 use Rattle.log_play.specs.declared.record.Stepped.{Stepped}
 use Rattle.log_play.specs.declared.block.Played.{Played}

@@ -13,8 +13,8 @@ use Rattle.ground.specs.declared.call.Call.TheVariants.{Request, UserAbort, Elap
 use Rattle.ground.specs.Runs.{Made, reply}
 use Rattle.bench.specs.Replies.{ready_setup}
 use Rattle.bench.specs.declared.reply.Setup.{Setup}
-use Rattle.log.specs.Record.{Rec, rec, noted}
-use Rattle.log.specs.Play.{Trace, trace}
+use Rattle.log_blocks.specs.Record.{Rec, rec, noted}
+use Rattle.log_blocks.specs.Play.{Trace, trace}
 
 -- "call kind .. the place of its script word in document 01, from 0"; "a request's data is its written PDU"
 unfoldable pub record_of : Call → List ℕ → Rec

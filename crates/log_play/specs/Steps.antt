@@ -19,8 +19,8 @@ use Rattle.bench_line.specs.Words.{ground_words}
 use Rattle.bench_line.specs.Lines.{ground_script}
 use Rattle.bench.specs.Replies.{ready_setup}
 use Rattle.bench.specs.declared.reply.Setup.{Setup}
-use Rattle.log.specs.Record.{Rec}
-use Rattle.log.specs.Play.{Step, went, refused}
+use Rattle.log_blocks.specs.Record.{Rec}
+use Rattle.log_blocks.specs.Play.{Step, went, refused}
 
 -- what a record has for a word that may be followed so: "a field its call doesn't use" is not readable
 unfoldable pub field_in : ℕ → ℕ → List ℕ → Field

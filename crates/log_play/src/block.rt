@@ -1,15 +1,15 @@
 // A block of the flight log, played as a whole: it is judged before anything of it counts.
 ghost use Rattle.std.specs.Prelude.{◌≡◌, ◌≤◌, length};
-ghost use Rattle.log.specs.Places.{end_of, from};
-ghost use Rattle.log.specs.Log.{bad, records_of};
-ghost use Rattle.log.specs.Record.{form_one};
-ghost use Rattle.log.specs.Play.{with_records, play};
+ghost use Rattle.log_blocks.specs.Places.{end_of, from};
+ghost use Rattle.log_blocks.specs.Log.{bad, records_of};
+ghost use Rattle.log_blocks.specs.Record.{form_one};
+ghost use Rattle.log_blocks.specs.Play.{with_records, play};
 ghost use Rattle.log_play.specs.Steps.{step_of};
 ghost use Rattle.log_play.specs.Plays.{played_in, play_block};
 
 use crate::record::play_record;
 use bench::reply::Setup;
-use log::{Found, check_block, record_at};
+use log_blocks::{Found, check_block, record_at};
 use refusals::NOT_READABLE;
 
 // `refusal` is 0, or 18, 19 or 20 beside the box as it was.

@@ -1,7 +1,7 @@
 // One record of the flight log, played on a box.
 ghost use Rattle.std.specs.Prelude.{◌≡◌, length};
 ghost use Rattle.script.specs.Fields.{held_in};
-ghost use Rattle.log.specs.Record.{rec};
+ghost use Rattle.log_blocks.specs.Record.{rec};
 ghost use Rattle.log_play.specs.Steps.{field_in, accepted, call_step, call_in, beside_of, settings_long, settings_of, open_step};
 ghost use Rattle.log_play.specs.Plays.{stays, step_in, stepped_by};
 

@@ -8,12 +8,12 @@ use Rattle.text.specs.Text.{pick}
 use Rattle.text.specs.Page.{Page, page, Writes}
 use Rattle.text.proofs.Pages.{after}
 use Rattle.link.specs.Tests as link
-use Rattle.log.specs.declared.Tape.{Tape}
-use Rattle.log.specs.declared.Appended.{Appended}
-use Rattle.log.specs.declared.Appended.TheVariants.{Wrote, Full, Ended, Refused}
-use Rattle.log.specs.Record.{Rec, noted}
-use Rattle.log.specs.Tapes.{appended, finished_to, recorder, note_by, log_of}
-use Rattle.log.specs.Tapes as tapes
+use Rattle.log_blocks.specs.declared.Tape.{Tape}
+use Rattle.log_blocks.specs.declared.Appended.{Appended}
+use Rattle.log_blocks.specs.declared.Appended.TheVariants.{Wrote, Full, Ended, Refused}
+use Rattle.log_blocks.specs.Record.{Rec, noted}
+use Rattle.log_blocks.specs.Tapes.{appended, finished_to, recorder, note_by, log_of}
+use Rattle.log_blocks.specs.Tapes as tapes
 use Rattle.log_script.specs.declared.recorder.Recorder.{Recorder}
 use Rattle.log_script.specs.Heard.{Heard}
 use Rattle.log_script.specs.Notes.{Desk, desk, ends, note_on, kept_on, line_on, desk_of, text_of, Leaves}

@@ -24,7 +24,7 @@ use Rattle.script.specs.Fields.{Field, garbled, holds, counts, alone_field, hex_
 use Rattle.script.specs.Lines.{Parsed, unread, makes, Heard, heard_line, call_of}
 use Rattle.script.specs.Lines as script
 use Rattle.bench_line.specs.Lines.{ground_script, request_in, octets_call, number_call, parsed_line}
-use Rattle.log.specs.Log.{All}
+use Rattle.log_blocks.specs.Log.{All}
 use Rattle.log_play.specs.Records.{Callable}
 use Rattle.log_script.specs.Scripts.{onto, calls_in}
 

@@ -22,13 +22,13 @@ use Rattle.bench_line.specs.Settings.{settings_in}
 use Rattle.bench_line.specs.declared.settings.Settings.{Settings}
 use Rattle.bench.specs.declared.reply.Setup.{Setup}
 use Rattle.bench.specs.Replies.{ground_bench, open_reply, settings_reply, line_reply}
-use Rattle.log.specs.declared.Appended.{Appended}
-use Rattle.log.specs.declared.Appended.TheVariants.{Wrote, Full, Ended, Refused}
-use Rattle.log.specs.Block.{BLOCKS}
-use Rattle.log.specs.Log.{got, pack}
-use Rattle.log.specs.Play.{play_log}
-use Rattle.log.specs.Record.{Rec, noted, form_one}
-use Rattle.log.specs.Tapes.{tape, appended, Recorder, recorder, note_by, note_all, log_of}
+use Rattle.log_blocks.specs.declared.Appended.{Appended}
+use Rattle.log_blocks.specs.declared.Appended.TheVariants.{Wrote, Full, Ended, Refused}
+use Rattle.log_blocks.specs.Block.{BLOCKS}
+use Rattle.log_blocks.specs.Log.{got, pack}
+use Rattle.log_blocks.specs.Play.{play_log}
+use Rattle.log_blocks.specs.Record.{Rec, noted, form_one}
+use Rattle.log_blocks.specs.Tapes.{tape, appended, Recorder, recorder, note_by, note_all, log_of}
 use Rattle.log_play.specs.Steps.{step_of}
 use Rattle.log_play.specs.Records.{records_of, answers_of}
 use Rattle.log_play.specs.Plays.{blank}

@@ -14,18 +14,18 @@ use Rattle.text.proofs.Laws.{take_min}
 use Rattle.link.specs.Tests as link
 use Rattle.link.proofs.Laws.{no_true}
 use Rattle.bench.specs.declared.reply.Setup.{Setup}
-use Rattle.log.specs.declared.Tape.{Tape}
-use Rattle.log.specs.declared.Appended.{Appended}
-use Rattle.log.specs.declared.Appended.TheVariants.{Wrote, Full, Ended, Refused}
-use Rattle.log.specs.declared.Finished.{Finished}
-use Rattle.log.specs.declared.Finished.TheVariants.{Next, Last, Unfit}
-use Rattle.log.specs.Block.{BLOCKS, ROOM}
-use Rattle.log.specs.Record.{Rec, rec, noted, rec_octets}
-use Rattle.log.specs.Tapes.{tape, written, fitting, follows, appended, appended_to, finished, finished_to, Appends, Finishes, recorder, note_by, log_of}
-use Rattle.log.specs.Tapes as tapes
-use Rattle.log.proofs.Blocks.{block-long}
-use Rattle.log.proofs.Seals.{Fits, fits, fitting-is, room, finished-is}
-use Rattle.log.proofs.Seals as seals
+use Rattle.log_blocks.specs.declared.Tape.{Tape}
+use Rattle.log_blocks.specs.declared.Appended.{Appended}
+use Rattle.log_blocks.specs.declared.Appended.TheVariants.{Wrote, Full, Ended, Refused}
+use Rattle.log_blocks.specs.declared.Finished.{Finished}
+use Rattle.log_blocks.specs.declared.Finished.TheVariants.{Next, Last, Unfit}
+use Rattle.log_blocks.specs.Block.{BLOCKS, ROOM}
+use Rattle.log_blocks.specs.Record.{Rec, rec, noted, rec_octets}
+use Rattle.log_blocks.specs.Tapes.{tape, written, fitting, follows, appended, appended_to, finished, finished_to, Appends, Finishes, recorder, note_by, log_of}
+use Rattle.log_blocks.specs.Tapes as tapes
+use Rattle.log_blocks.proofs.Blocks.{block-long}
+use Rattle.log_blocks.proofs.Seals.{Fits, fits, fitting-is, room, finished-is}
+use Rattle.log_blocks.proofs.Seals as seals
 use Rattle.log_script.specs.declared.line.Entry.{Entry}
 use Rattle.log_script.specs.declared.recorder.Recorder.{Recorder}
 use Rattle.log_script.specs.Heard.{Heard, Hears}

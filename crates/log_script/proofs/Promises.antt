@@ -33,7 +33,7 @@ use Rattle.bench_line.specs.Settings.{no_settings, settings_from, settings_in}
 use Rattle.bench_line.specs.declared.settings.Settings.{Settings}
 use Rattle.bench.specs.declared.reply.Setup.{Setup}
 use Rattle.bench.specs.Replies.{ground_bench, ready_setup, answer_reply, open_reply, settings_reply, line_reply}
-use Rattle.log.specs.Record.{Rec, noted}
+use Rattle.log_blocks.specs.Record.{Rec, noted}
 use Rattle.log_play.specs.Records.{record_of, settings_record, records_from, records_of}
 use Rattle.log_script.specs.Heard.{call_kept, settings_kept, set_kept, line_kept}
 use Rattle.log_script.specs.Scripts.{noted_all, script_kept, onto, calls_in}

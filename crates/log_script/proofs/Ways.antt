@@ -36,7 +36,7 @@ use Rattle.bench_line.specs.Lines.{ground_script, parsed_in, parsed_line, parsed
 use Rattle.bench_line.specs.Settings.{settings_in}
 use Rattle.bench.specs.declared.reply.Setup.{Setup}
 use Rattle.bench.specs.Replies.{ground_bench, ready_setup, answer_reply, open_reply, settings_reply, line_reply}
-use Rattle.log.specs.Record.{Rec, rec}
+use Rattle.log_blocks.specs.Record.{Rec, rec}
 use Rattle.log_play.specs.Records.{record_of, settings_record}
 use Rattle.log_play.proofs.Recorded.{may_write}
 use Rattle.log_script.specs.declared.line.Entry.{Entry}

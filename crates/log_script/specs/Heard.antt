@@ -11,7 +11,7 @@ use Rattle.bench_line.specs.Settings.{settings_in}
 use Rattle.bench_line.specs.declared.settings.Settings.{Settings}
 use Rattle.bench.specs.declared.reply.Setup.{Setup}
 use Rattle.bench.specs.Replies.{line_reply}
-use Rattle.log.specs.Record.{Rec, rec}
+use Rattle.log_blocks.specs.Record.{Rec, rec}
 use Rattle.log_play.specs.Records.{record_of, settings_record}
 use Rattle.log_script.specs.declared.line.Entry.{Entry}
 

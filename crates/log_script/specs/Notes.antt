@@ -3,14 +3,14 @@ use Rattle.std.specs.Prelude.{◌≡◌, Bool, true, false, not, List, [], ◌�
 use Rattle.text.specs.Text.{pick}
 use Rattle.text.specs.Page.{Page, page, Writes}
 use Rattle.bench.specs.declared.reply.Setup.{Setup}
-use Rattle.log.specs.declared.Tape.{Tape}
-use Rattle.log.specs.declared.Appended.{Appended}
-use Rattle.log.specs.declared.Appended.TheVariants.{Wrote, Full, Ended, Refused}
-use Rattle.log.specs.declared.Finished.{Finished}
-use Rattle.log.specs.declared.Finished.TheVariants.{Next, Last, Unfit}
-use Rattle.log.specs.Record.{Rec, rec, noted}
-use Rattle.log.specs.Tapes.{appended, appended_to, finished, finished_to, recorder, note_all}
-use Rattle.log.specs.Tapes as tapes
+use Rattle.log_blocks.specs.declared.Tape.{Tape}
+use Rattle.log_blocks.specs.declared.Appended.{Appended}
+use Rattle.log_blocks.specs.declared.Appended.TheVariants.{Wrote, Full, Ended, Refused}
+use Rattle.log_blocks.specs.declared.Finished.{Finished}
+use Rattle.log_blocks.specs.declared.Finished.TheVariants.{Next, Last, Unfit}
+use Rattle.log_blocks.specs.Record.{Rec, rec, noted}
+use Rattle.log_blocks.specs.Tapes.{appended, appended_to, finished, finished_to, recorder, note_all}
+use Rattle.log_blocks.specs.Tapes as tapes
 use Rattle.log_script.specs.declared.line.Entry.{Entry}
 use Rattle.log_script.specs.declared.recorder.Recorder.{Recorder}
 use Rattle.log_script.specs.Heard.{Heard}

@@ -6,8 +6,8 @@ use Rattle.script.specs.Lines.{Parsed, unread, makes}
 use Rattle.bench_line.specs.Lines.{parsed_line}
 use Rattle.bench.specs.declared.reply.Setup.{Setup}
 use Rattle.bench.specs.Replies.{line_reply}
-use Rattle.log.specs.Record.{Rec, noted}
-use Rattle.log.specs.Tapes.{tape, recorder}
+use Rattle.log_blocks.specs.Record.{Rec, noted}
+use Rattle.log_blocks.specs.Tapes.{tape, recorder}
 use Rattle.log_script.specs.Heard.{line_kept, heard_line}
 use Rattle.log_script.specs.Notes.{Desk, desk, line_on}
 

@@ -1,7 +1,7 @@
 // A bench script from standard input, the flight log of its accepted calls to standard output.
 ghost use Rattle.std.specs.Prelude.{◌≡◌};
 ghost use Rattle.text.specs.Page.{page, Writes};
-ghost use Rattle.log.specs.Tapes.{log_of};
+ghost use Rattle.log_blocks.specs.Tapes.{log_of};
 ghost use Rattle.log_script.specs.Heard.{heard_line};
 ghost use Rattle.log_script.specs.Notes.{note_on, line_on, desk_of, text_of, Leaves, entry_rec, at_tape, stopped_at, Enters, Turns};
 
@@ -9,7 +9,7 @@ use crate::line::{Entry, hear_line};
 use bench::reply::Setup;
 use ground_answer::fresh::idle_link;
 use link::moves::TIMERS;
-use log::{Appended, Finished, Tape, append};
+use log_blocks::{Appended, Finished, Tape, append};
 use script::room::{line_room, page_room};
 use text::{least, put_text};
 use text_lines::input::{Ended, finish, pull_line, shown, start};
@@ -73,7 +73,7 @@ fn turn_block(r: Recorder, block: &mut [u8], out: &mut [u8]) -> Recorder
 {
     let mut t = r;
     let tape = r.tape;
-    let f = log::finish(tape, block);
+    let f = log_blocks::finish(tape, block);
     t.at = put_text(out, r.at, block);
     match f {
         Finished::Next(next) => at_tape(t, next),

@@ -1,4 +1,6 @@
 // Numbers of two and of four octets, the most significant octet first, and runs of octets. What is not there reads as 0, and what has no room is dropped.
+#![tactic(auto)]
+
 ghost use Rattle.std.specs.Prelude.{◌≡◌, ◌+◌, ◌-◌, ◌*◌, ◌≤◌, length, get_or, set};
 ghost use Rattle.std.proofs.lemmas.List.Edits.{sets};
 ghost use Rattle.octets.specs.Octets.{pair, pair_at, quad, word_at, zeros};

@@ -18,6 +18,7 @@ use per::pen::Pen;
 
 // The numbers are those of 01: the kind of a noncompliance, the request that a positive ack answers, the reason of an abort.
 #[derive(Drop)]
+#[derive(Clone, Copy)]
 pub enum Air {
     CancelEmergency,
     Demand(AckedReport),

@@ -12,6 +12,7 @@ use per::pen::Pen;
 
 // Tens of feet. A ceiling may stand below its floor.
 #[derive(Drop)]
+#[derive(Clone, Copy)]
 pub struct LevelRange {
     pub ceiling: Signed,
     pub floor: Signed,
@@ -19,6 +20,7 @@ pub struct LevelRange {
 
 // One of two numbers: the first of kind 0, the second of kind 1.
 #[derive(Drop)]
+#[derive(Clone, Copy)]
 pub struct Either {
     pub kind: u32,
     pub number: u32,
@@ -27,6 +29,7 @@ pub struct Either {
 // Lateral deviation in tenths of a nautical mile, vertical rate in tens of feet a minute; air speed in steps of 0.005 Mach or in knots, ground speed in knots; heading and
 // track in tenths of a degree; extended profile in steps of 15 minutes or in way points; level in tens of feet.
 #[derive(Drop)]
+#[derive(Clone, Copy)]
 pub struct Changes {
     pub elements: u32,
     pub lateral: u32,

@@ -11,18 +11,21 @@ use per::cursor::Cursor;
 use per::pen::Pen;
 
 #[derive(Drop)]
+#[derive(Clone, Copy)]
 pub struct AckedReport {
     pub ack: bool,
     pub report: Report,
 }
 
 #[derive(Drop)]
+#[derive(Clone, Copy)]
 pub struct AckedEmergency {
     pub ack: bool,
     pub report: EmergencyReport,
 }
 
 #[derive(Drop)]
+#[derive(Clone, Copy)]
 pub struct EventReport {
     pub ack: bool,
     pub event: u32,

@@ -14,6 +14,7 @@ use per::pen::Pen;
 
 // The request that is refused, and why.
 #[derive(Drop)]
+#[derive(Clone, Copy)]
 pub struct NegativeAck {
     pub request: u32,
     pub reason: u32,

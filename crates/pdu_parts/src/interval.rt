@@ -8,6 +8,7 @@ use per::cursor::Cursor;
 use per::pen::Pen;
 
 #[derive(Drop)]
+#[derive(Clone, Copy)]
 pub enum Interval {
     Seconds(u32),
     Minutes(u32),

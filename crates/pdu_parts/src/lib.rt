@@ -1,4 +1,6 @@
 // The parts of PDUs: position, time, merit and reports; lists; intervals and the periodic contract; acks and notices. A file holds types with their readers and writers.
+#![tactic(auto)]
+
 pub mod acked;
 pub mod acks;
 pub mod elements;

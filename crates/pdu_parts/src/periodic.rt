@@ -14,6 +14,7 @@ use refusals::OUT_OF_RANGE;
 
 // `elements` are the presence bits of the moduli, in the report's order; whether the interval is sent follows from it.
 #[derive(Drop)]
+#[derive(Clone, Copy)]
 pub struct Periodic {
     pub interval: Interval,
     pub elements: u32,

@@ -9,6 +9,7 @@ use per::pen::Pen;
 
 // Degrees, minutes and tenth-seconds. Minus zero and plus zero stay different.
 #[derive(Drop)]
+#[derive(Clone, Copy)]
 pub struct Angle {
     pub minus: bool,
     pub degrees: u32,
@@ -17,6 +18,7 @@ pub struct Angle {
 }
 
 #[derive(Drop)]
+#[derive(Clone, Copy)]
 pub struct Position {
     pub latitude: Angle,
     pub longitude: Angle,

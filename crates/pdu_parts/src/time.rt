@@ -8,6 +8,7 @@ use per::pen::Pen;
 
 // Any day of 1 to 31 goes with any month.
 #[derive(Drop)]
+#[derive(Clone, Copy)]
 pub struct Time {
     pub year: u32,
     pub month: u32,
@@ -20,6 +21,7 @@ pub struct Time {
 
 // Accuracy, and whether several navigation units and collision avoidance are at work.
 #[derive(Drop)]
+#[derive(Clone, Copy)]
 pub struct Merit {
     pub accuracy: u32,
     pub units: bool,

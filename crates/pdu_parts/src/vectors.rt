@@ -11,6 +11,7 @@ use per::pen::Pen;
 
 // Track in tenths of a degree, speed in knots, vertical rate in tens of feet a minute.
 #[derive(Drop)]
+#[derive(Clone, Copy)]
 pub struct GroundVector {
     pub elements: u32,
     pub track: u32,
@@ -20,6 +21,7 @@ pub struct GroundVector {
 
 // Of kind 0 Mach in thousandths, of kind 1 indicated air speed in knots, of kind 2 both.
 #[derive(Drop)]
+#[derive(Clone, Copy)]
 pub struct AirSpeed {
     pub kind: u32,
     pub mach: u32,
@@ -28,6 +30,7 @@ pub struct AirSpeed {
 
 // Heading and rate as a ground vector's track and rate.
 #[derive(Drop)]
+#[derive(Clone, Copy)]
 pub struct AirVector {
     pub elements: u32,
     pub heading: u32,
@@ -37,6 +40,7 @@ pub struct AirVector {
 
 // Wind in knots and degrees, temperature in quarters of a degree Celsius.
 #[derive(Drop)]
+#[derive(Clone, Copy)]
 pub struct Weather {
     pub elements: u32,
     pub speed: u32,

@@ -1,4 +1,6 @@
 // The reader: it keeps hold of the lent octets and its bit place. Each function takes it apart and calls the covered cursor on the two.
+#![tactic(auto)]
+
 ghost use Rattle.std.specs.Prelude.{◌≡◌};
 ghost use Rattle.per.specs.Pdu.{window, finish, read_pdu};
 ghost use Rattle.per.specs.Formats.{run, num, flag, extension, signed, mask, index, count, when};

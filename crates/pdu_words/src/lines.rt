@@ -10,6 +10,7 @@ use text_lines::input::{Ended, finish, pull_line, shown, start};
 
 // What is said of a PDU.
 #[derive(Drop)]
+#[derive(Clone, Copy)]
 pub enum Task {
     // `ok HEX`, the octets written back from the value read, or `refused N`.
     Code,

@@ -12,6 +12,7 @@ use refusals::*;
 
 // Where reading stands, and the first refusal it met (0: none).
 #[derive(Drop)]
+#[derive(Clone, Copy)]
 pub struct Cursor {
     pub at: usize,
     pub refusal: u8,
@@ -19,6 +20,7 @@ pub struct Cursor {
 
 // A number that was read.
 #[derive(Drop)]
+#[derive(Clone, Copy)]
 pub struct Num {
     pub value: u32,
     pub next: Cursor,
@@ -33,6 +35,7 @@ pub struct Flag {
 
 // A number with a sign.
 #[derive(Drop)]
+#[derive(Clone, Copy)]
 pub struct Signed {
     pub number: i32,
 }

@@ -1,5 +1,7 @@
 // The numbers by which calls refuse, each with the words of 01 ("Refusal numbers") or of the request that brought it. 0 is no refusal.
 // request not permitted
+#![tactic(auto)]
+
 pub const NOT_PERMITTED: u8 = 1;
 
 // cannot occur

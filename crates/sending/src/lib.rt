@@ -1,4 +1,6 @@
 // What an answer puts under way: its entries that are for the dialogue service, each with its PDU and the number of its dialogue.
+#![tactic(auto)]
+
 ghost use Rattle.std.specs.Prelude.{◌≡◌, length, take};
 ghost use Rattle.sending.specs.Ways.{way_of, kind_of, number_for, sent_as, sent_entry, sent_all};
 

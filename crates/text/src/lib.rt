@@ -1,4 +1,6 @@
 // Text on lent octets: words, hexadecimal, whole numbers.
+#![tactic(auto)]
+
 pub mod digits;
 pub mod words;
 

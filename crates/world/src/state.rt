@@ -6,6 +6,7 @@ pub const MOST: usize = 16;
 
 // The two boxes, what is under way, the number of the last start request that was sent, and of the one that the aircraft heard last and did not refuse.
 #[derive(Drop)]
+#[derive(Clone, Copy)]
 pub struct World {
     pub ground: bench::reply::Setup,
     pub air: air_bench::reply::Setup,

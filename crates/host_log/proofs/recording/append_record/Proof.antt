@@ -1,7 +1,7 @@
 use mathlib.Core.Path.{sym, ◌∙◌}
 use native.Mathlib.Omega.{arith}
 use borrow.Author.Tests.{not-true, not-false}
-use Rattle.log.specs.Record.{rec}
+use Rattle.log_blocks.specs.Record.{rec}
 use Rattle.host_log.proofs.Ways.{not-open, not-fields, was-full, no_room, wrote-small, took}
 use borrow.Author.Rules.{rules}
 use Rattle.host_log.proofs.recording.append_record.Statement.{statement}

@@ -1,7 +1,7 @@
 use mathlib.Core.Path.{ap, ◌∙◌}
 use lib.ListN.{length}
-use Rattle.log.specs.Tapes.{tape, fitting}
-use Rattle.log.specs.declared.Tape.{Tape}
+use Rattle.log_blocks.specs.Tapes.{tape, fitting}
+use Rattle.log_blocks.specs.declared.Tape.{Tape}
 use Rattle.host_log.specs.Recording.{is_open}
 use borrow.Author.Rules.{rules}
 use Rattle.host_log.proofs.recording.is_open.Statement.{statement}

@@ -4,7 +4,7 @@ use mathlib.Core.Bool.{Bool}
 use native.Mathlib.Omega.{arith}
 use lib.ListN.{length}
 use lib.Seq.{length-take-le}
-use Rattle.log.proofs.Walks.{ready}
+use Rattle.log_blocks.proofs.Walks.{ready}
 use Rattle.log_bench.specs.Logs.{Outcome, Ends}
 use Rattle.log_bench.proofs.Ending.{ends-lost, ends-here, ends-refused, block-judged, ends-block}
 use borrow.Author.Rules.{rules}

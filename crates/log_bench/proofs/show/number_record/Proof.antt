@@ -1,6 +1,6 @@
 use mathlib.Core.Path.{sym}
 use lib.Seq.{length-take-le}
-use Rattle.log.specs.Record.{rec}
+use Rattle.log_blocks.specs.Record.{rec}
 use Rattle.log_bench.proofs.Showing.{record-adds}
 use borrow.Author.Rules.{rules}
 use Rattle.log_bench.proofs.show.number_record.Statement.{statement}

@@ -4,9 +4,9 @@ use native.Mathlib.Omega.{arith}
 use lib.ListN.{length, take, drop}
 use Rattle.script.specs.Trace.{bumped}
 use Rattle.bench.specs.declared.reply.Setup.{Setup}
-use Rattle.log.specs.Places.{from}
-use Rattle.log.specs.Record.{rec}
-use Rattle.log.proofs.Walks.{walk-on}
+use Rattle.log_blocks.specs.Places.{from}
+use Rattle.log_blocks.specs.Record.{rec}
+use Rattle.log_blocks.proofs.Walks.{walk-on}
 use Rattle.log_play.specs.Plays.{stepped_by}
 use Rattle.log_play.proofs.Walks.{data-place}
 use Rattle.log_bench.specs.Shown.{record_reply, Shows}

@@ -1,5 +1,5 @@
 use mathlib.Core.Path.{sym, ◌∙◌}
-use Rattle.log.proofs.Walks.{ready}
+use Rattle.log_blocks.proofs.Walks.{ready}
 use Rattle.log_play.proofs.Walks.{block_refused, block_read}
 use borrow.Author.Rules.{rules}
 use Rattle.log_play.proofs.block.play_block.Statement.{statement}

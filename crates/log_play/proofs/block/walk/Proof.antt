@@ -2,11 +2,11 @@ use Prim.Native.Nat.{◌-◌, ◌≤◌}
 use mathlib.Core.Path.{◌≡◌, refl, sym, ◌∙◌}
 use native.Mathlib.Omega.{arith}
 use borrow.Author.Tests.{not-true, not-false}
-use Rattle.log.specs.Log.{records_of}
-use Rattle.log.specs.Record.{form_one}
-use Rattle.log.specs.Play.{with_records, play}
-use Rattle.log.specs.Places.{from}
-use Rattle.log.proofs.Walks.{walk-on}
+use Rattle.log_blocks.specs.Log.{records_of}
+use Rattle.log_blocks.specs.Record.{form_one}
+use Rattle.log_blocks.specs.Play.{with_records, play}
+use Rattle.log_blocks.specs.Places.{from}
+use Rattle.log_blocks.proofs.Walks.{walk-on}
 use Rattle.log_play.specs.Steps.{step_of}
 use Rattle.log_play.specs.Plays.{played_in}
 use Rattle.log_play.proofs.Walks.{data-place, turn_end, turn-unreadable, turn-stays, turn-goes}
