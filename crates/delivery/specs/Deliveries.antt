@@ -27,7 +27,7 @@ head_text number i l =
 
 -- the world without the oldest letter
 unfoldable pub without : World → World
-without w = record { ground = w.ground; air = w.air; under = drop 1 w.under; last = w.last; taken = w.taken }
+without w = record { ground_end = w.ground_end; air = w.air; under = drop 1 w.under; last = w.last; taken = w.taken }
 
 unfoldable pub carried_with : World → List ℕ → Carried → Carried
 carried_with w head x = record { world = pick x.stays w x.world; text = head ++ (x.text ++ (10 ∷ [])); stays = x.stays }

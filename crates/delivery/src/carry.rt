@@ -55,7 +55,7 @@ fn put_head(out: &mut [u8], at: usize, number: u64, i: u64, l: Letter) -> usize
 fn carry_one(w: World, number: u64, i: u64, hear: bool, out: &mut [u8], at: usize) -> Carried
     ensures { Carries LETTER-MOST (carried_one hear number i (world_of w)) (page out.old at) result (page out.new result.at) }
 {
-    let ground = w.ground;
+    let ground = w.ground_end;
     let air = w.air;
     let before = w.held;
     let l = oldest(before);
@@ -63,7 +63,7 @@ fn carry_one(w: World, number: u64, i: u64, hear: bool, out: &mut [u8], at: usiz
     let a = put_head(out, at, number, i, l);
     let c = come(
         World {
-            ground,
+            ground_end: ground,
             air,
             held,
             last: w.last,

@@ -59,10 +59,10 @@ end-length n = omega (arith, length-append (ascii "end ") (decimal n ++ (10 ∷ 
 states-text-length : (w : World) → length (states_text w) ≤ 2011
 unfolding states_text
 states-text-length w =
-    let g = ground_states w.ground in
+    let g = ground_states w.ground_end in
     let a = air_states w.air in
     let d = decimal (length w.under) in
-    omega (arith, length-append g (a ++ (ascii "under way " ++ (d ++ (10 ∷ [])))), length-append a (ascii "under way " ++ (d ++ (10 ∷ []))), length-append (ascii "under way ") (d ++ (10 ∷ [])), length-append d (10 ∷ []), ground-length w.ground, air-length w.air, decimal-length (length w.under))
+    omega (arith, length-append g (a ++ (ascii "under way " ++ (d ++ (10 ∷ [])))), length-append a (ascii "under way " ++ (d ++ (10 ∷ []))), length-append (ascii "under way ") (d ++ (10 ∷ [])), length-append d (10 ∷ []), ground-length w.ground_end, air-length w.air, decimal-length (length w.under))
 
 pub ending-stands : {w : World} {n : ℕ} {l m out : List ℕ} {at a : ℕ} {r : Ended} → at + ENDING-MOST ≤ length l → Writes (page l at) (states_text w) (page m a) → Closes n false (page m a) r out
     → Ends false w n (page l at) r out

@@ -38,4 +38,4 @@ unfoldable pub air_states : air.Setup → List ℕ
 air_states s = pick s.ready (ascii "air" ++ states_of air_names s.link.at) (ascii "air not set\n")
 
 unfoldable pub states_text : World → List ℕ
-states_text w = ground_states w.ground ++ (air_states w.air ++ (ascii "under way " ++ (decimal (length w.under) ++ (10 ∷ []))))
+states_text w = ground_states w.ground_end ++ (air_states w.air ++ (ascii "under way " ++ (decimal (length w.under) ++ (10 ∷ []))))

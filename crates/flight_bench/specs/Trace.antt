@@ -16,7 +16,7 @@ use Rattle.flight_bench.specs.Endings.{states_text}
 
 -- both boxes before their settings, nothing under way, and the first line
 unfoldable pub begun : Reply World
-begun = record { box = record { ground = (ground.begun).box; air = (air.begun).box; under = []; last = 0; taken = 0 }; text = ascii "adsc flight 1\n" }
+begun = record { box = record { ground_end = (ground.begun).box; air = (air.begun).box; under = []; last = 0; taken = 0 }; text = ascii "adsc flight 1\n" }
 
 -- a line's number and its answer, and the world after it
 unfoldable pub numbered : ℕ → World → List ℕ → Reply World

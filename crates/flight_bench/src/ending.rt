@@ -87,7 +87,7 @@ fn put_air(out: &mut [u8], at: usize, s: air_bench::reply::Setup) -> usize
 pub fn put_states(out: &mut [u8], at: usize, w: World) -> usize
     ensures { Writes (page out.old at) (states_text (world_of w)) (page out.new result) }
 {
-    let ground = w.ground;
+    let ground = w.ground_end;
     let air = w.air;
     let held = w.held;
     let a = put_ground(out, at, ground);

@@ -32,7 +32,7 @@ pub fn begin(out: &mut [u8]) -> Trace
         number: 0,
         at,
         world: World {
-            ground: bench::reply::Setup {
+            ground_end: bench::reply::Setup {
                 ready: false,
                 link: below,
             },

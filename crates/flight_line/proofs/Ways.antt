@@ -29,13 +29,13 @@ module _ (w : World) (line : List ℕ) where
   unfolding ground_user
   ground-other h = by (is_user line) false _ _ h
 
-  pub ground-asks : is_user line ≡ true → w.ground.ready ≡ true → ground_user w line ≡ ground_asked w (ground.parsed_line line)
+  pub ground-asks : is_user line ≡ true → w.ground_end.ready ≡ true → ground_user w line ≡ ground_asked w (ground.parsed_line line)
   unfolding ground_user
-  ground-asks h r = by (is_user line) true _ _ h ∙ by w.ground.ready true _ _ r
+  ground-asks h r = by (is_user line) true _ _ h ∙ by w.ground_end.ready true _ _ r
 
-  pub ground-sets : is_user line ≡ true → w.ground.ready ≡ false → ground_user w line ≡ ground_set w line
+  pub ground-sets : is_user line ≡ true → w.ground_end.ready ≡ false → ground_user w line ≡ ground_set w line
   unfolding ground_user
-  ground-sets h r = by (is_user line) true _ _ h ∙ by w.ground.ready false _ _ r
+  ground-sets h r = by (is_user line) true _ _ h ∙ by w.ground_end.ready false _ _ r
 
   pub air-other : is_user line ≡ false → air_user w line ≡ refused w 17
   unfolding air_user
@@ -51,17 +51,17 @@ module _ (w : World) (line : List ℕ) where
 
 -- an elapse that an end refuses
 module _ (w : World) (b : Both) where
-  pub first-refuses : (b.ground.refusal ≡ 0 → ⊥) → unless_refused w b ≡ refused w b.ground.refusal
+  pub first-refuses : (b.ground_end.refusal ≡ 0 → ⊥) → unless_refused w b ≡ refused w b.ground_end.refusal
   unfolding unless_refused
-  first-refuses h = by _ false _ _ (ne_eqb b.ground.refusal 0 h)
+  first-refuses h = by _ false _ _ (ne_eqb b.ground_end.refusal 0 h)
 
-  pub second-refuses : b.ground.refusal ≡ 0 → (b.air.refusal ≡ 0 → ⊥) → unless_refused w b ≡ refused w b.air.refusal
+  pub second-refuses : b.ground_end.refusal ≡ 0 → (b.air.refusal ≡ 0 → ⊥) → unless_refused w b ≡ refused w b.air.refusal
   unfolding unless_refused
-  second-refuses g h = by _ true _ _ (eq-eqb b.ground.refusal 0 g) ∙ by _ false _ _ (ne_eqb b.air.refusal 0 h)
+  second-refuses g h = by _ true _ _ (eq-eqb b.ground_end.refusal 0 g) ∙ by _ false _ _ (ne_eqb b.air.refusal 0 h)
 
-  pub none-refuses : b.ground.refusal ≡ 0 → b.air.refusal ≡ 0 → unless_refused w b ≡ both_reply b
+  pub none-refuses : b.ground_end.refusal ≡ 0 → b.air.refusal ≡ 0 → unless_refused w b ≡ both_reply b
   unfolding unless_refused
-  none-refuses g h = by _ true _ _ (eq-eqb b.ground.refusal 0 g) ∙ by _ true _ _ (eq-eqb b.air.refusal 0 h)
+  none-refuses g h = by _ true _ _ (eq-eqb b.ground_end.refusal 0 g) ∙ by _ true _ _ (eq-eqb b.air.refusal 0 h)
 
 -- letters that come or are thrown away
 module _ (w : World) (number : ℕ) (tail : List ℕ) (hear : Bool) where

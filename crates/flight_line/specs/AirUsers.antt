@@ -22,7 +22,7 @@ air_asked w unread = refused w SCRIPT-LINE
 
 -- an aircraft that has none answers as at its bench
 unfoldable pub air_with : World → Reply Setup → Reply World
-air_with w r = record { box = record { ground = w.ground; air = r.box; under = w.under; last = w.last; taken = w.taken }; text = r.text }
+air_with w r = record { box = record { ground_end = w.ground_end; air = r.box; under = w.under; last = w.last; taken = w.taken }; text = r.text }
 
 unfoldable pub air_set : World → List ℕ → Reply World
 air_set w line = air_with w (line_reply w.air line)

@@ -23,10 +23,10 @@ ground_asked w unread = refused w SCRIPT-LINE
 
 -- a ground that has none answers as at its bench
 unfoldable pub ground_with : World → Reply Setup → Reply World
-ground_with w r = record { box = record { ground = r.box; air = w.air; under = w.under; last = w.last; taken = w.taken }; text = r.text }
+ground_with w r = record { box = record { ground_end = r.box; air = w.air; under = w.under; last = w.last; taken = w.taken }; text = r.text }
 
 unfoldable pub ground_set : World → List ℕ → Reply World
-ground_set w line = ground_with w (line_reply w.ground line)
+ground_set w line = ground_with w (line_reply w.ground_end line)
 
 unfoldable pub ground_user : World → List ℕ → Reply World
-ground_user w line = pick (is_user line) (pick w.ground.ready (ground_asked w (parsed_line line)) (ground_set w line)) (refused w SCRIPT-LINE)
+ground_user w line = pick (is_user line) (pick w.ground_end.ready (ground_asked w (parsed_line line)) (ground_set w line)) (refused w SCRIPT-LINE)

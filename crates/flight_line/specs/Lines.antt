@@ -30,7 +30,7 @@ unfoldable pub refused_line : World → Reply World
 refused_line w = ended (refused w SCRIPT-LINE)
 
 unfoldable pub both_ready : World → Bool
-both_ready w = both w.ground.ready w.air.ready
+both_ready w = both w.ground_end.ready w.air.ready
 
 -- LINE of `ground LINE` and `air LINE`
 unfoldable pub rest_of : List ℕ → List ℕ

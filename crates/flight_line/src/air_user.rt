@@ -40,14 +40,14 @@ fn ask_air(w: World, line: &[u8], out: &mut [u8], at: usize) -> Flown
 fn set_air(w: World, line: &[u8], out: &mut [u8], at: usize) -> Flown
     ensures { Flies ANSWER-MOST (air_set (world_of w) line.now) (page out.old at) (world_of result.world) (page out.new result.at) }
 {
-    let ground = w.ground;
+    let ground = w.ground_end;
     let setup = w.air;
     let held = w.held;
     let r = answer_line(setup, line, out, at);
     let air = r.setup;
     Flown {
         world: World {
-            ground,
+            ground_end: ground,
             air,
             held,
             last: w.last,

@@ -19,7 +19,7 @@ use world::state::World;
 #[derive(Drop)]
 pub struct Both {
     pub world: World,
-    pub ground: ground_answer::answer::Said,
+    pub ground_end: ground_answer::answer::Said,
     pub air: air_answer::answer::Said,
 }
 
@@ -32,13 +32,13 @@ fn hear_both(w: World, g: ground::call::Call, a: air::call::Call) -> Both
     let world = u.world;
     let ground = t.said;
     let air = u.said;
-    Both { world, ground, air }
+    Both { world, ground_end: ground, air }
 }
 
 fn tell_both(b: Both, out: &mut [u8], at: usize) -> Flown
     ensures { Flies BOTH-MOST (both_reply (both_of b)) (page out.old at) (world_of result.world) (page out.new result.at) }
 {
-    let ground = b.ground;
+    let ground = b.ground_end;
     let air = b.air;
     let a = put_text(out, at, b"ground ");
     let e = put_ground(out, a, ground, b"");
@@ -53,7 +53,7 @@ pub fn elapse_both(w: World, n: u32, out: &mut [u8], at: usize) -> Flown
     ensures { Flies ANSWER-MOST (elapse_reply (world_of w) n) (page out.old at) (world_of result.world) (page out.new result.at) }
 {
     let b = hear_both(w, ground::call::Call::Elapse(n), air::call::Call::Elapse(n));
-    let ground = b.ground;
+    let ground = b.ground_end;
     let first = ground.refusal;
     if first != 0 {
         return refuse(w, first, out, at);

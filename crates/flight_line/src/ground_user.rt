@@ -38,14 +38,14 @@ fn ask_ground(w: World, line: &[u8], out: &mut [u8], at: usize) -> Flown
 fn set_ground(w: World, line: &[u8], out: &mut [u8], at: usize) -> Flown
     ensures { Flies ANSWER-MOST (ground_set (world_of w) line.now) (page out.old at) (world_of result.world) (page out.new result.at) }
 {
-    let setup = w.ground;
+    let setup = w.ground_end;
     let air = w.air;
     let held = w.held;
     let r = answer_line(setup, line, out, at);
     let ground = r.setup;
     Flown {
         world: World {
-            ground,
+            ground_end: ground,
             air,
             held,
             last: w.last,
@@ -61,7 +61,7 @@ pub fn use_ground(w: World, line: &[u8], out: &mut [u8], at: usize) -> Flown
     if !is_user(line) {
         return refuse(w, SCRIPT_LINE, out, at);
     }
-    let setup = w.ground;
+    let setup = w.ground_end;
     if setup.ready {
         return ask_ground(w, line, out, at);
     }

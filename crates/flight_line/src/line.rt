@@ -35,7 +35,7 @@ fn refuse_line(w: World, out: &mut [u8], at: usize) -> Flown
 fn both_ready(w: World) -> bool
     ensures { result ≡ both_ready (world_of w) }
 {
-    let ground = w.ground;
+    let ground = w.ground_end;
     let air = w.air;
     if ground.ready { air.ready } else { false }
 }

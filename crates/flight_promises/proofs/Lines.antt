@@ -131,7 +131,7 @@ unfolding air_users.air_asked air_users.air_said air_asks
 air-asked w (makes c s) = record { kept = kept-air w w.taken c.call c.list s }
 air-asked w unread = nothing w SCRIPT-LINE
 
-ground-set : (w : World) (line : List ℕ) → w.ground.ready ≡ false → Keeps w (ground_users.ground_set w line) [] []
+ground-set : (w : World) (line : List ℕ) → w.ground_end.ready ≡ false → Keeps w (ground_users.ground_set w line) [] []
 unfolding ground_users.ground_set ground_users.ground_with
 ground-set w line new = record { kept = record { of_ground = λ r. never _ new r; of_air = λ r. (r, still air_runs.air_side _); no_more = λ h. h } }
 
@@ -142,7 +142,7 @@ air-set w line new = record { kept = record { of_ground = λ r. (r, still ground
 ground-user : (w : World) (line : List ℕ) → Keeps w (ground_users.ground_user w line) (ground_uses is_of_ground w line) (ground_uses is_of_air w line)
 unfolding ground_users.ground_user ground_uses
 ground-user w line =
-    either (is_user line) (λ u. either w.ground.ready (λ r. ground-asked w (ground_lines.parsed_line line)) (λ r. ground-set w line r)) (λ u. nothing w SCRIPT-LINE)
+    either (is_user line) (λ u. either w.ground_end.ready (λ r. ground-asked w (ground_lines.parsed_line line)) (λ r. ground-set w line r)) (λ u. nothing w SCRIPT-LINE)
 
 air-user : (w : World) (line : List ℕ) → Keeps w (air_users.air_user w line) (air_uses is_of_ground w line) (air_uses is_of_air w line)
 unfolding air_users.air_user air_uses
@@ -162,9 +162,9 @@ kept-elapse w n =
     let g = ground.TheVariants.Elapse n in
     let a = air.TheVariants.Elapse n in
     let b = both_hear w g a in
-    either (eqb b.ground.refusal 0)
+    either (eqb b.ground_end.refusal 0)
     (λ e. either (eqb b.air.refusal 0) (λ f. both-kept w g a) (λ f. nothing w b.air.refusal))
-    (λ e. nothing w b.ground.refusal)
+    (λ e. nothing w b.ground_end.refusal)
 
 -- lines
 module _ (w : World) {gs : List ground_runs.Made} {cs : List air_runs.Made} where

@@ -155,7 +155,7 @@ ground-line : (w : World) (line : List ℕ) → all_fit w.under ≡ true → Fai
 unfolding is_of_ground.ground_user is_of_ground.ground_set is_of_ground.ground_with ground_uses refused
 ground-line w line h =
     fair-by box (is_user line)
-    (λ u. fair-by box w.ground.ready (λ r. ground-asked w (ground_lines.parsed_line line) (ground-user line u) h) (λ r. record { fits = h; valid = refl }))
+    (λ u. fair-by box w.ground_end.ready (λ r. ground-asked w (ground_lines.parsed_line line) (ground-user line u) h) (λ r. record { fits = h; valid = refl }))
     (λ u. quiet w h)
 
 air-line : (w : World) (line : List ℕ) → all_fit w.under ≡ true → Fair (is_of_air.air_user w line).box (air_uses reasons w line)
@@ -189,7 +189,7 @@ unfolding elapse_line number_told elapse_reply unless_refused elapse_told ended 
 elapse-fair w (Value n) h =
     let b = both_hear w (ground_call.TheVariants.Elapse n) (air_call.TheVariants.Elapse n) in
     fair-by box (both_ready w)
-    (λ r. fair-by box (eqb b.ground.refusal 0)
+    (λ r. fair-by box (eqb b.ground_end.refusal 0)
     (λ e. fair-by box (eqb b.air.refusal 0) (λ f. elapse-both w n h) (λ f. quiet w h)) (λ e. quiet w h))
     (λ r. quiet w h)
 elapse-fair w Unread h = quiet w h

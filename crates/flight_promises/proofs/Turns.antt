@@ -53,8 +53,8 @@ pub ground-fair : (w : World) (c : ground_call.Call) (s : List ℕ) → ground.h
     → Fair (to_ground.turned w c s).world ((to_ground.turned w c s).said.reason ∷ [])
 unfolding to_ground.turned to_ground.turn_with
 ground-fair w c s e h =
-    let a = ground_runs.answered w.ground.link c s in
-    let k = ground.ground-clean w.ground.link c s e in
+    let a = ground_runs.answered w.ground_end.link c s in
+    let k = ground.ground-clean w.ground_end.link c s e in
     let x = to_ground.sent_by a.said (way w.under w.last) in
     ground-by w a x (ltb 16 (length x.under)) k h (ground-sent a (way w.under w.last) k h)
 
@@ -94,7 +94,7 @@ ground-more w a x false h = h
 pub ground-grows : (w : World) (c : ground_call.Call) (s : List ℕ) → length w.under ≤ length (to_ground.turned w c s).world.under
 unfolding to_ground.turned to_ground.turn_with to_ground.sent_by
 ground-grows w c s =
-    let a = ground_runs.answered w.ground.link c s in
+    let a = ground_runs.answered w.ground_end.link c s in
     let o = take a.said.sent.n a.said.sent.octets in
     let x = to_ground.sent_by a.said (way w.under w.last) in
     ground-more w a x (ltb 16 (length x.under))

@@ -18,7 +18,7 @@ use Rattle.flight_promises.specs.Told.{Tell, told_on}
 -- a call, where no more than 16 letters are under way after it: else it is not made ("refused with 17 and changes nothing")
 unfoldable pub ground_made : World → ground_call.Call → List ℕ → List ground.Made
 ground_made w c s =
-    pick (ltb MOST (length (to_ground.sent_by (ground.answered w.ground.link c s).said (way w.under w.last)).under)) []
+    pick (ltb MOST (length (to_ground.sent_by (ground.answered w.ground_end.link c s).said (way w.under w.last)).under)) []
     (record { call = c; octets = s } ∷ [])
 
 unfoldable pub air_made : World → ℕ → air_call.Call → Listed → List ℕ → List air.Made
@@ -35,7 +35,7 @@ is_of_air = record { for_ground = λ w c s. []; for_air = air_made }
 
 -- from the world w to the world v: an end that has its settings keeps them, and its link is what it was after calls of its own
 pub record Kept (w v : World) (gs : List ground.Made) (cs : List air.Made) : Type 0 where
-  pub of_ground : w.ground.ready ≡ true → (v.ground.ready ≡ true) × (v.ground.link ≡ after ground.ground w.ground.link gs)
+  pub of_ground : w.ground_end.ready ≡ true → (v.ground_end.ready ≡ true) × (v.ground_end.link ≡ after ground.ground w.ground_end.link gs)
   pub of_air : w.air.ready ≡ true → (v.air.ready ≡ true) × (v.air.link ≡ after air.air_side w.air.link cs)
   pub no_more : length w.under ≤ MOST → length v.under ≤ MOST
 

@@ -42,7 +42,7 @@ module _ {X : Type 0} (t : Tell X) where
 
   -- settings are no call
   unfoldable pub ground_uses : World → List ℕ → List X
-  ground_uses w line = pick (is_user line) (pick w.ground.ready (ground_asks w (ground_lines.parsed_line line)) []) []
+  ground_uses w line = pick (is_user line) (pick w.ground_end.ready (ground_asks w (ground_lines.parsed_line line)) []) []
 
   unfoldable pub air_uses : World → List ℕ → List X
   air_uses w line = pick (is_user line) (pick w.air.ready (air_asks w (parsed_line line)) []) []
@@ -55,7 +55,7 @@ module _ {X : Type 0} (t : Tell X) where
   unfoldable pub elapse_told : World → ℕ → List X
   elapse_told w n =
       let b = both_hear w (ground.TheVariants.Elapse n) (air.TheVariants.Elapse n) in
-      pick (eqb b.ground.refusal 0)
+      pick (eqb b.ground_end.refusal 0)
       (pick (eqb b.air.refusal 0) (both_told w (ground.TheVariants.Elapse n) (air.TheVariants.Elapse n)) [])
       []
 

@@ -46,7 +46,7 @@ periodic-within : (a : Periodic) → periodic_c.chk a ≡ 0 → Within (seconds_
 unfolding periodic_c recast dep field only
 periodic-within a h =
     let v = sent_bits (is_five a.interval) a.elements in
-    let m : Moduli = (a.address, (a.profile, (a.ground, (a.air, a.weather)))) in
+    let m : Moduli = (a.address, (a.profile, (a.over_ground, (a.air, a.weather)))) in
     let few = unless (leb a.elements 127) 5 in
     let rest = first ((interval_if (has 128 v)).chk a.interval) ((moduli_c v).chk m) in
     let all = first (periodic_bits.chk v) rest in

@@ -9,7 +9,7 @@ abbrev pub flat_changes : Changes → List ℕ
 flat_changes a =
     4 ∷ a.elements ∷ 0 ∷ 0 ∷ 0 ∷ 0 ∷ 0 ∷ 0 ∷ 0
     ∷ a.lateral ∷ twos a.rate.number ∷ twos a.range.ceiling.number ∷ twos a.range.floor.number
-    ∷ a.air.kind ∷ a.air.number ∷ a.ground ∷ a.heading ∷ a.profile.kind ∷ a.profile.number ∷ a.track ∷ a.level ∷ []
+    ∷ a.air.kind ∷ a.air.number ∷ a.over_ground ∷ a.heading ∷ a.profile.kind ∷ a.profile.number ∷ a.track ∷ a.level ∷ []
 
 -- and back. Numbers that are not there are 0
 unfoldable pub changes_at : List ℕ → Changes
@@ -20,7 +20,7 @@ changes_at f =
       rate = signed_of (get_or f G-RATE 0);
       range = record { ceiling = signed_of (get_or f G-CEILING 0); floor = signed_of (get_or f G-FLOOR 0) };
       air = record { kind = get_or f G-AIR-SPEED 0; number = get_or f G-AIR-SPEED-CHANGE 0 };
-      ground = get_or f G-GROUND-SPEED 0;
+      over_ground = get_or f G-GROUND-SPEED 0;
       heading = get_or f G-HEADING 0;
       profile = record { kind = get_or f G-EXTENDED-PROFILE 0; number = get_or f G-EXTENDED-PROFILE-COUNT 0 };
       track = get_or f G-TRACK 0;

@@ -26,7 +26,7 @@ flat_acked kind a = flat_report kind a.ack 0 a.report
 
 -- emergencies, which have the ground vector alone
 abbrev pub flat_urgent : AckedEmergency → List ℕ
-flat_urgent a = fix_numbers 2 a.ack 0 a.report.elements a.report.fix a.report.address ++ (flat_ground_vector a.report.ground ++ replicate 11 0)
+flat_urgent a = fix_numbers 2 a.ack 0 a.report.elements a.report.fix a.report.address ++ (flat_ground_vector a.report.over_ground ++ replicate 11 0)
 
 -- "Index 3: that presence bit, event type* 0..11, report"
 abbrev pub flat_event : EventReport → List ℕ
@@ -53,7 +53,7 @@ unfoldable pub urgent_at : List ℕ → AckedEmergency
 urgent_at f =
     record {
       ack = truth (get_or f A-WHAT 0);
-      report = record { elements = number_by f A-WHAT A-ELEMENTS; fix = fix_at f; address = get_or f A-ADDRESS 0; ground = ground_vector_at f };
+      report = record { elements = number_by f A-WHAT A-ELEMENTS; fix = fix_at f; address = get_or f A-ADDRESS 0; over_ground = ground_vector_at f };
     }
 
 -- and of an event report, with the event type

@@ -19,7 +19,7 @@ fix_numbers kind ack event elements x address =
 -- with the vectors and the weather
 unfoldable pub flat_report : ℕ → Bool → ℕ → Report → List ℕ
 flat_report kind ack event r =
-    fix_numbers kind ack event r.elements r.fix r.address ++ (flat_ground_vector r.ground ++ (flat_air_vector r.air ++ flat_weather r.weather))
+    fix_numbers kind ack event r.elements r.fix r.address ++ (flat_ground_vector r.over_ground ++ (flat_air_vector r.air ++ flat_weather r.weather))
 
 -- and back. Numbers that are not there are 0. Two truth values stand beside the accuracy
 unfoldable pub accuracy_at : List ℕ → ℕ
@@ -55,7 +55,7 @@ report_at f =
       elements = number_by f A-WHAT A-ELEMENTS;
       fix = fix_at f;
       address = get_or f A-ADDRESS 0;
-      ground = ground_vector_at f;
+      over_ground = ground_vector_at f;
       air = air_vector_at f;
       weather = weather_at f;
     }

@@ -26,7 +26,7 @@ flat_modify i = 5 ∷ 0 ∷ scale_of i ∷ times_of i ∷ replicate 17 0
 
 abbrev pub flat_periodic : Periodic → List ℕ
 flat_periodic a =
-    6 ∷ a.elements ∷ scale_of a.interval ∷ times_of a.interval ∷ a.address ∷ a.profile ∷ a.ground ∷ a.air ∷ a.weather ∷ replicate 12 0
+    6 ∷ a.elements ∷ scale_of a.interval ∷ times_of a.interval ∷ a.address ∷ a.profile ∷ a.over_ground ∷ a.air ∷ a.weather ∷ replicate 12 0
 
 unfoldable pub flat_ground : Ground → List ℕ
 flat_ground CancelAll = pair_of 0 0
@@ -51,7 +51,7 @@ periodic_at f =
       elements = get_or f G-WHAT 0;
       address = get_or f G-ADDRESS 0;
       profile = get_or f G-PROFILE 0;
-      ground = get_or f G-GROUND-VECTOR 0;
+      over_ground = get_or f G-GROUND-VECTOR 0;
       air = get_or f G-AIR-VECTOR 0;
       weather = get_or f G-WEATHER 0;
     }

@@ -37,7 +37,7 @@ fn flat_urgent(a: AckedEmergency) -> [u32; A_NUMBERS]
 {
     let it = a.report;
     let x = it.fix;
-    let ground = it.ground;
+    let ground = it.over_ground;
     with_ground(flat_fix(2, a.ack, 0, it.elements, x, it.address), ground)
 }
 
@@ -82,7 +82,7 @@ fn urgent_at(f: &[u32]) -> AckedEmergency
         elements: number_by(f, A_WHAT, A_ELEMENTS),
         fix,
         address: number(f, A_ADDRESS),
-        ground,
+        over_ground: ground,
     };
     AckedEmergency { ack, report }
 }

@@ -74,7 +74,7 @@ pub(crate) fn flat_report(kind: u32, ack: bool, event: u32, it: Report) -> [u32;
     ensures { result ≡ flat_report kind ack event it }
 {
     let x = it.fix;
-    let ground = it.ground;
+    let ground = it.over_ground;
     let air = it.air;
     let weather = it.weather;
     let f = flat_fix(kind, ack, event, it.elements, x, it.address);
@@ -154,7 +154,7 @@ pub(crate) fn report_at(f: &[u32]) -> Report
         elements: number_by(f, A_WHAT, A_ELEMENTS),
         fix,
         address: number(f, A_ADDRESS),
-        ground,
+        over_ground: ground,
         air,
         weather,
     }

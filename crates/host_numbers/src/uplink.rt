@@ -56,7 +56,7 @@ fn flat_periodic(a: Periodic) -> [u32; G_NUMBERS]
     let scale = scale_of(interval);
     let times = times_of(interval);
     [
-        6, a.elements, scale, times, a.address, a.profile, a.ground, a.air, a.weather, 0, 0, 0, 0,
+        6, a.elements, scale, times, a.address, a.profile, a.over_ground, a.air, a.weather, 0, 0, 0, 0,
         0, 0, 0, 0, 0, 0, 0, 0,
     ]
 }
@@ -102,7 +102,7 @@ fn periodic_at(f: &[u32]) -> Periodic
         elements,
         address,
         profile,
-        ground,
+        over_ground: ground,
         air,
         weather,
     }

@@ -41,16 +41,16 @@ plain_report = record {
     merit = record { accuracy = 0; units = false; avoidance = false };
   };
   address = 0;
-  ground = no_ground_vector;
+  over_ground = no_ground_vector;
   air = no_air_vector;
   weather = no_weather;
 }
 
 abbrev pub one_minute : Periodic
-one_minute = record { interval = Minutes 1; elements = 0; address = 0; profile = 0; ground = 0; air = 0; weather = 0 }
+one_minute = record { interval = Minutes 1; elements = 0; address = 0; profile = 0; over_ground = 0; air = 0; weather = 0 }
 
 abbrev pub waypoint : Changes
-waypoint = record { elements = WAYPOINT-CHANGE; lateral = 0; rate = none; range = no_range; air = no_either; ground = 0; heading = 0; profile = no_either; track = 0; level = 0 }
+waypoint = record { elements = WAYPOINT-CHANGE; lateral = 0; rate = none; range = no_range; air = no_either; over_ground = 0; heading = 0; profile = no_either; track = 0; level = 0 }
 
 -- P1 cancel-emergency; P2 ground abort 4; P3 air abort 4; P4 cancel-contract periodic; P5 positive ack periodic; P6 negative ack demand, reason 3;
 -- P7 modify to 5 minutes; P8 empty demand contract; P9 waypoint event contract; P10 periodic, 1 minute; P11 periodic, 5 minutes, written without them; P12 empty input: 7, in

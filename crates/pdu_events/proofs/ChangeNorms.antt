@@ -33,7 +33,7 @@ changes_read a = record {
   rate = cond (has RATE-CHANGE a.elements) a.rate none;
   range = cond (has LEVEL-RANGE a.elements) a.range no_range;
   air = cond (has AIR-SPEED-CHANGE a.elements) a.air no_either;
-  ground = cond (has GROUND-SPEED-CHANGE a.elements) a.ground 0;
+  over_ground = cond (has GROUND-SPEED-CHANGE a.elements) a.over_ground 0;
   heading = cond (has HEADING-CHANGE a.elements) a.heading 0;
   profile = cond (has PROFILE-CHANGE a.elements) a.profile no_either;
   track = cond (has TRACK-CHANGE a.elements) a.track 0;
@@ -49,7 +49,7 @@ changes-norm a =
       signed-norm (has RATE-CHANGE v) 3000 3000 a.rate,
       range-there (has LEVEL-RANGE v) a.range,
       either-there (has AIR-SPEED-CHANGE v) 255 700 a.air,
-      when-norm (has GROUND-SPEED-CHANGE v) 0 300 a.ground,
+      when-norm (has GROUND-SPEED-CHANGE v) 0 300 a.over_ground,
       when-norm (has HEADING-CHANGE v) 1 3600 a.heading,
       either-there (has PROFILE-CHANGE v) 80 128 a.profile,
       when-norm (has TRACK-CHANGE v) 1 3600 a.track,
@@ -80,7 +80,7 @@ changes-small a h =
     let rate = (rate_at RATE-CHANGE v).chk a.rate in
     let range = (when (has LEVEL-RANGE v) no_range level_range_c).chk a.range in
     let turn = first ((profile_at v).chk a.profile) (first ((num_at TRACK-CHANGE v 1 3600).chk a.track) ((num_at LEVEL-CHANGE v 1 500).chk a.level)) in
-    let more = first ((air_speed_at v).chk a.air) (first ((num_at GROUND-SPEED-CHANGE v 0 300).chk a.ground) (first ((num_at HEADING-CHANGE v 1 3600).chk a.heading) turn)) in
+    let more = first ((air_speed_at v).chk a.air) (first ((num_at GROUND-SPEED-CHANGE v 0 300).chk a.over_ground) (first ((num_at HEADING-CHANGE v 1 3600).chk a.heading) turn)) in
     let after-mask = first-1 ((mask EVENT-BITS EVENT-BITS true).chk v) (first lateral (first rate (first range more))) h in
     let after-lateral = first-1 lateral (first rate (first range more)) after-mask in
     record {

@@ -52,15 +52,15 @@ changes_c =
       rate = p.1.1.0;
       range = p.1.1.1.0;
       air = p.1.1.1.1.0;
-      ground = p.1.1.1.1.1.0;
+      over_ground = p.1.1.1.1.1.0;
       heading = p.1.1.1.1.1.1.0;
       profile = p.1.1.1.1.1.1.1.0;
       track = p.1.1.1.1.1.1.1.1.0;
       level = p.1.1.1.1.1.1.1.1.1;
     })
-    (λ a. (a.elements, (a.lateral, (a.rate, (a.range, (a.air, (a.ground, (a.heading, (a.profile, (a.track, a.level))))))))))
+    (λ a. (a.elements, (a.lateral, (a.rate, (a.range, (a.air, (a.over_ground, (a.heading, (a.profile, (a.track, a.level))))))))))
     (λ p. refl)
 
 -- an event contract with nothing in it, which is not written
 abbrev pub no_changes : Changes
-no_changes = record { elements = 0; lateral = 0; rate = none; range = no_range; air = no_either; ground = 0; heading = 0; profile = no_either; track = 0; level = 0 }
+no_changes = record { elements = 0; lateral = 0; rate = none; range = no_range; air = no_either; over_ground = 0; heading = 0; profile = no_either; track = 0; level = 0 }

@@ -36,7 +36,7 @@ pub struct Changes {
     pub rate: Signed,
     pub range: LevelRange,
     pub air: Either,
-    pub ground: u32,
+    pub over_ground: u32,
     pub heading: u32,
     pub profile: Either,
     pub track: u32,
@@ -156,7 +156,7 @@ pub fn read_changes(c: Cursor, s: &[u8]) -> ChangesRead
         rate,
         range,
         air,
-        ground: ground.value,
+        over_ground: ground.value,
         heading: heading.value,
         profile,
         track: track.value,
@@ -179,7 +179,7 @@ pub fn write_changes(p: Pen, out: &mut [u8; 128], a: Changes) -> Pen
     let p = write_signed_if(p, out, present(v, RATE_CHANGE), rate, 3000, 3000);
     let p = write_range_if(p, out, present(v, LEVEL_RANGE), range);
     let p = write_either_if(p, out, present(v, AIR_SPEED_CHANGE), air, 255, 700);
-    let p = p.num_if(out, present(v, GROUND_SPEED_CHANGE), a.ground, 0, 300);
+    let p = p.num_if(out, present(v, GROUND_SPEED_CHANGE), a.over_ground, 0, 300);
     let p = p.num_if(out, present(v, HEADING_CHANGE), a.heading, 1, 3600);
     let p = write_either_if(p, out, present(v, PROFILE_CHANGE), profile, 80, 128);
     let p = p.num_if(out, present(v, TRACK_CHANGE), a.track, 1, 3600);

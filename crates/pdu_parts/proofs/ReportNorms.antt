@@ -141,7 +141,7 @@ report_read a = record {
   elements = a.elements;
   fix = fix_read a.fix;
   address = cond (has ADDRESS a.elements) a.address 0;
-  ground = cond (has GROUND-VECTOR a.elements) (ground_read a.ground) no_ground_vector;
+  over_ground = cond (has GROUND-VECTOR a.elements) (ground_read a.over_ground) no_ground_vector;
   air = cond (has AIR-VECTOR a.elements) (air_read a.air) no_air_vector;
   weather = cond (has WEATHER a.elements) (weather_read a.weather) no_weather;
 }
@@ -150,21 +150,21 @@ pub report-norm : (a : Report) → report_c.norm a ≡ report_read a
 unfolding report_c via dep field only
 report-norm a =
     let v = a.elements in
-    rw (fix-norm a.fix, when-norm (has ADDRESS v) 0 16777215 a.address, ground-there (has GROUND-VECTOR v) a.ground, air-there (has AIR-VECTOR v) a.air, weather-there (has WEATHER v) a.weather)
+    rw (fix-norm a.fix, when-norm (has ADDRESS v) 0 16777215 a.address, ground-there (has GROUND-VECTOR v) a.over_ground, air-there (has AIR-VECTOR v) a.air, weather-there (has WEATHER v) a.weather)
 
 abbrev pub emergency_read : EmergencyReport → EmergencyReport
 emergency_read a = record {
   elements = a.elements;
   fix = fix_read a.fix;
   address = cond (has EMERGENCY-ADDRESS a.elements) a.address 0;
-  ground = cond (has EMERGENCY-GROUND-VECTOR a.elements) (ground_read a.ground) no_ground_vector;
+  over_ground = cond (has EMERGENCY-GROUND-VECTOR a.elements) (ground_read a.over_ground) no_ground_vector;
 }
 
 pub emergency-norm : (a : EmergencyReport) → emergency_report_c.norm a ≡ emergency_read a
 unfolding emergency_report_c via dep field only
 emergency-norm a =
     let v = a.elements in
-    rw (fix-norm a.fix, when-norm (has EMERGENCY-ADDRESS v) 0 16777215 a.address, ground-there (has EMERGENCY-GROUND-VECTOR v) a.ground)
+    rw (fix-norm a.fix, when-norm (has EMERGENCY-ADDRESS v) 0 16777215 a.address, ground-there (has EMERGENCY-GROUND-VECTOR v) a.over_ground)
 
 -- ---- "A level of -75 to 10000 is sent as the level plus 75", exact at -75, 0 and 10000, both ways; -76 and 10001 are refused with 5
 pub levels : ((signed_field 75 10000).from (record { number = negsuc 74 }) ≡ 0) × ((signed_field 75 10000).from (record { number = pos 0 }) ≡ 75)

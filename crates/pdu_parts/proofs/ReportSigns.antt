@@ -93,7 +93,7 @@ weather-small true a h =
 -- ---- reports
 pub record ReportSmall (a : Report) : Type 0 where
   pub level : Small a.fix.position.level
-  pub ground : GroundSmall a.ground
+  pub ground : GroundSmall a.over_ground
   pub air : AirSmall a.air
   pub weather : WeatherSmall a.weather
 
@@ -101,7 +101,7 @@ pub report-small : (a : Report) → report_c.chk a ≡ 0 → ReportSmall (report
 unfolding report_c via dep field only
 report-small a h =
     let v = a.elements in
-    let g = (when (has GROUND-VECTOR v) no_ground_vector ground_vector_c).chk a.ground in
+    let g = (when (has GROUND-VECTOR v) no_ground_vector ground_vector_c).chk a.over_ground in
     let w = (when (has AIR-VECTOR v) no_air_vector air_vector_c).chk a.air in
     let s = (when (has WEATHER v) no_weather weather_c).chk a.weather in
     let m = (address ADDRESS v).chk a.address in
@@ -110,23 +110,23 @@ report-small a h =
     let last = first-1 g (first w s) after-fix in
     record {
       level = fix-small a.fix (first-0 (fix_c.chk a.fix) (first m (first g (first w s))) after-mask);
-      ground = ground-small (has GROUND-VECTOR v) a.ground (first-0 g (first w s) after-fix);
+      over_ground = ground-small (has GROUND-VECTOR v) a.over_ground (first-0 g (first w s) after-fix);
       air = air-small (has AIR-VECTOR v) a.air (first-0 w s last);
       weather = weather-small (has WEATHER v) a.weather (first-1 w s last);
     }
 
 pub record EmergencySmall (a : EmergencyReport) : Type 0 where
   pub level : Small a.fix.position.level
-  pub ground : GroundSmall a.ground
+  pub ground : GroundSmall a.over_ground
 
 pub emergency-small : (a : EmergencyReport) → emergency_report_c.chk a ≡ 0 → EmergencySmall (emergency_report_c.norm a)
 unfolding emergency_report_c via dep field only
 emergency-small a h =
     let v = a.elements in
-    let g = (when (has EMERGENCY-GROUND-VECTOR v) no_ground_vector ground_vector_c).chk a.ground in
+    let g = (when (has EMERGENCY-GROUND-VECTOR v) no_ground_vector ground_vector_c).chk a.over_ground in
     let m = (address EMERGENCY-ADDRESS v).chk a.address in
     let after-mask = first-1 ((mask EMERGENCY-BITS EMERGENCY-CARRIED false).chk v) (first (fix_c.chk a.fix) (first m g)) h in
     record {
       level = fix-small a.fix (first-0 (fix_c.chk a.fix) (first m g) after-mask);
-      ground = ground-small (has EMERGENCY-GROUND-VECTOR v) a.ground (first-1 m g (first-1 (fix_c.chk a.fix) (first m g) after-mask));
+      over_ground = ground-small (has EMERGENCY-GROUND-VECTOR v) a.over_ground (first-1 m g (first-1 (fix_c.chk a.fix) (first m g) after-mask));
     }

@@ -78,13 +78,13 @@ of_parts p = record {
   elements = p.0 % INTERVAL;
   address = p.1.1.0;
   profile = p.1.1.1.0;
-  ground = p.1.1.1.1.0;
+  over_ground = p.1.1.1.1.0;
   air = p.1.1.1.1.1.0;
   weather = p.1.1.1.1.1.1;
 }
 
 abbrev pub to_parts : Periodic → Parts
-to_parts a = (sent_bits (is_five a.interval) a.elements, (a.interval, (a.address, (a.profile, (a.ground, (a.air, a.weather))))))
+to_parts a = (sent_bits (is_five a.interval) a.elements, (a.interval, (a.address, (a.profile, (a.over_ground, (a.air, a.weather))))))
 
 abbrev pub elements_bad : Periodic → ℕ
 elements_bad a = unless (leb a.elements REPORT-BITS) OUT-OF-RANGE

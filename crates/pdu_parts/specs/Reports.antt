@@ -76,8 +76,8 @@ unfoldable pub report_c : Codec Report
 report_c =
     iso (ext (dep (mask REPORT-BITS REPORT-CARRIED false) (λ v. pair fix_c (pair (address ADDRESS v)
     (pair (when (has GROUND-VECTOR v) no_ground_vector ground_vector_c) (pair (when (has AIR-VECTOR v) no_air_vector air_vector_c) (when (has WEATHER v) no_weather weather_c)))))))
-    (λ p. record { elements = p.0; fix = p.1.0; address = p.1.1.0; ground = p.1.1.1.0; air = p.1.1.1.1.0; weather = p.1.1.1.1.1 })
-    (λ a. (a.elements, (a.fix, (a.address, (a.ground, (a.air, a.weather))))))
+    (λ p. record { elements = p.0; fix = p.1.0; address = p.1.1.0; over_ground = p.1.1.1.0; air = p.1.1.1.1.0; weather = p.1.1.1.1.1 })
+    (λ a. (a.elements, (a.fix, (a.address, (a.over_ground, (a.air, a.weather))))))
     (λ p. refl)
 
 -- "Emergency report: no extension bit, 2 presence bits (address, ground vector), the same three, address". 02, L1: "ground vector also in emergency reports"
@@ -85,6 +85,6 @@ unfoldable pub emergency_report_c : Codec EmergencyReport
 emergency_report_c =
     iso (dep (mask EMERGENCY-BITS EMERGENCY-CARRIED false)
     (λ v. pair fix_c (pair (address EMERGENCY-ADDRESS v) (when (has EMERGENCY-GROUND-VECTOR v) no_ground_vector ground_vector_c))))
-    (λ p. record { elements = p.0; fix = p.1.0; address = p.1.1.0; ground = p.1.1.1 })
-    (λ a. (a.elements, (a.fix, (a.address, a.ground))))
+    (λ p. record { elements = p.0; fix = p.1.0; address = p.1.1.0; over_ground = p.1.1.1 })
+    (λ a. (a.elements, (a.fix, (a.address, a.over_ground))))
     (λ p. refl)

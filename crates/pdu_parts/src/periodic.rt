@@ -20,7 +20,7 @@ pub struct Periodic {
     pub elements: u32,
     pub address: u32,
     pub profile: u32,
-    pub ground: u32,
+    pub over_ground: u32,
     pub air: u32,
     pub weather: u32,
 }
@@ -48,7 +48,7 @@ pub fn read_periodic(c: Cursor, s: &[u8]) -> PeriodicRead
         elements: v % INTERVAL,
         address: address.value,
         profile: profile.value,
-        ground: ground.value,
+        over_ground: ground.value,
         air: air.value,
         weather: weather.value,
     };
@@ -77,7 +77,7 @@ pub fn write_periodic(p: Pen, out: &mut [u8; 128], a: Periodic) -> Pen
     let p = write_interval_if(p, out, present(v, INTERVAL), interval);
     let p = p.num_if(out, present(v, ADDRESS), a.address, 1, 255);
     let p = p.num_if(out, present(v, PROFILE), a.profile, 1, 255);
-    let p = p.num_if(out, present(v, GROUND_VECTOR), a.ground, 1, 255);
+    let p = p.num_if(out, present(v, GROUND_VECTOR), a.over_ground, 1, 255);
     let p = p.num_if(out, present(v, AIR_VECTOR), a.air, 1, 255);
     p.num_if(out, present(v, WEATHER), a.weather, 1, 255)
 }

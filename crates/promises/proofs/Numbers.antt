@@ -75,7 +75,7 @@ on-periodic a = go (leb a.elements 127)
     go false = on tt
     go true =
         on-first ((a-mask PERIODIC-BITS PERIODIC-CARRIED five ten).each v)
-        (on-first (on-sent (has 128 v) a.interval) ((moduli v).each (a.address, (a.profile, (a.ground, (a.air, a.weather))))))
+        (on-first (on-sent (has 128 v) a.interval) ((moduli v).each (a.address, (a.profile, (a.over_ground, (a.air, a.weather))))))
 
 fifteen : On numbers 15
 fifteen = on tt

@@ -35,7 +35,7 @@ taken_after r number before = pick (eqb r 0) number before
 unfoldable pub goes_on : World → ℕ → Answer → Way → Turn
 goes_on w number a x =
     record {
-      world = record { ground = w.ground; air = ready_setup a.link; under = x.under; last = w.last; taken = taken_after a.said.refusal number w.taken };
+      world = record { ground_end = w.ground_end; air = ready_setup a.link; under = x.under; last = w.last; taken = taken_after a.said.refusal number w.taken };
       said = a.said;
     }
 

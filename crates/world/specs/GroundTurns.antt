@@ -28,21 +28,21 @@ unfoldable pub sent_by : Said → Way → Way
 sent_by said x = let s = take said.sent.n said.sent.octets in sent_all true x (take said.acts.n said.acts.list) s (length s)
 
 unfoldable pub goes_on : World → Answer → Way → Turn
-goes_on w a x = record { world = record { ground = ready_setup a.link; air = w.air; under = x.under; last = x.number; taken = w.taken }; said = a.said }
+goes_on w a x = record { world = record { ground_end = ready_setup a.link; air = w.air; under = x.under; last = x.number; taken = w.taken }; said = a.said }
 
 -- "refused with 17 and changes nothing .. where more than 16 would be under way after it"
 unfoldable pub stays : World → Turn
-stays w = record { world = w; said = (refusal w.ground.link SCRIPT-LINE).said }
+stays w = record { world = w; said = (refusal w.ground_end.link SCRIPT-LINE).said }
 
 unfoldable pub turn_with : World → Answer → Turn
 turn_with w a = let x = sent_by a.said (way w.under w.last) in pick (ltb MOST (length x.under)) (stays w) (goes_on w a x)
 
 unfoldable pub turned : World → Call → List ℕ → Turn
-turned w c s = turn_with w (answered w.ground.link c s)
+turned w c s = turn_with w (answered w.ground_end.link c s)
 
 -- "Anything else is heard by an end whose LI is not IDLE and whose number it has (the ground's is the last one sent ..)"
 unfoldable pub hears : World → Letter → Bool
-hears w l = both (not (eqb (get_or w.ground.link.at LI 0) IDLE)) (eqb l.number w.last)
+hears w l = both (not (eqb (get_or w.ground_end.link.at LI 0) IDLE)) (eqb l.number w.last)
 
 -- "each to the other end as the primitive it is"
 unfoldable pub call_for : ℕ → Call

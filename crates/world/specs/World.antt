@@ -9,7 +9,7 @@ use Rattle.world.specs.declared.state.World as code
 -- the two boxes; what is under way, the oldest first; the number of the last start request that was sent, and of the one that the aircraft heard last and did
 -- not refuse
 pub record World : Type 0 where
-  pub ground : ground.Setup
+  pub ground_end : ground.Setup
   pub air : air.Setup
   pub under : List Letter
   pub last : ℕ
@@ -20,4 +20,4 @@ abbrev pub MOST : ℕ
 MOST = 16
 
 abbrev pub world_of : code.World → World
-world_of w = record { ground = w.ground; air = w.air; under = held_in w.held; last = w.last; taken = w.taken }
+world_of w = record { ground_end = w.ground_end; air = w.air; under = held_in w.held; last = w.last; taken = w.taken }

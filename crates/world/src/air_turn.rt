@@ -66,11 +66,11 @@ pub fn turn_air(w: World, number: u64, call: Call, list: Listed, octets: &[u8]) 
         };
     }
     let next = a.link;
-    let ground = w.ground;
+    let ground = w.ground_end;
     let taken = taken_after(said.refusal, number, w.taken);
     AirTurn {
         world: World {
-            ground,
+            ground_end: ground,
             air: Setup {
                 ready: true,
                 link: next,

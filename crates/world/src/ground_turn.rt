@@ -38,7 +38,7 @@ fn send_said(said: Said, w: Way) -> Way
 pub fn turn_ground(w: World, call: Call, octets: &[u8]) -> GroundTurn
     ensures { turn_of result ≡ turned (world_of w) call octets.now }
 {
-    let setup = w.ground;
+    let setup = w.ground_end;
     let link = setup.link;
     let a = answer(link, call, octets);
     let said = a.said;
@@ -61,7 +61,7 @@ pub fn turn_ground(w: World, call: Call, octets: &[u8]) -> GroundTurn
     let air = w.air;
     GroundTurn {
         world: World {
-            ground: Setup {
+            ground_end: Setup {
                 ready: true,
                 link: next,
             },
@@ -78,7 +78,7 @@ pub fn turn_ground(w: World, call: Call, octets: &[u8]) -> GroundTurn
 pub fn is_heard(w: World, l: Letter) -> bool
     ensures { result ≡ hears (world_of w) l }
 {
-    let setup = w.ground;
+    let setup = w.ground_end;
     let link = setup.link;
     let at = link.at;
     if at[4] == IDLE {

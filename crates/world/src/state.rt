@@ -8,7 +8,7 @@ pub const MOST: usize = 16;
 #[derive(Drop)]
 #[derive(Clone, Copy)]
 pub struct World {
-    pub ground: bench::reply::Setup,
+    pub ground_end: bench::reply::Setup,
     pub air: air_bench::reply::Setup,
     pub held: Channel,
     pub last: u64,

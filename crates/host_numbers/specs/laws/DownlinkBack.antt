@@ -24,7 +24,7 @@ head-there : (kind : ℕ) (ack : Bool) (event : ℕ) (r : Report)
     → (get_or (flat_report kind ack event r) 0 0 ≡ kind) × (truth (get_or (flat_report kind ack event r) 1 0) ≡ ack) × (get_or (flat_report kind ack event r) 2 0 ≡ event)
 unfolding flat_report
 head-there kind ack event r =
-    let rest = flat_ground_vector r.ground ++ (flat_air_vector r.air ++ flat_weather r.weather) in
+    let rest = flat_ground_vector r.over_ground ++ (flat_air_vector r.air ++ flat_weather r.weather) in
     (kind-there kind ack event r.elements r.fix r.address rest, ack-there kind ack event r.elements r.fix r.address rest, event-there kind ack event r.elements r.fix r.address rest)
 
 acked-back : (kind : ℕ) (a : AckedReport) → ReportHolds a.report → acked_at (flat_acked kind a) ≡ a
@@ -34,15 +34,15 @@ acked-back kind a f = rw ((head-there kind a.ack 0 a.report).1, report-back kind
 -- the numbers with a sign of an emergency report
 pub record EmergencyHolds (r : EmergencyReport) : Type 0 where
   pub level : Holds r.fix.position.level
-  pub speed : Holds r.ground.speed
-  pub rate : Holds r.ground.rate
+  pub speed : Holds r.over_ground.speed
+  pub rate : Holds r.over_ground.rate
 
 urgent-back : (a : AckedEmergency) → EmergencyHolds a.report → urgent_at (flat_urgent a) ≡ a
 unfolding urgent_at
 urgent-back a f =
     let r = a.report in
-    let rest = flat_ground_vector r.ground ++ replicate 11 0 in
-    rw (ack-there 2 a.ack 0 r.elements r.fix r.address rest, elements-there 2 a.ack 0 r.elements r.fix r.address rest, fix-back 2 a.ack 0 r.elements r.fix r.address rest f.level, address-there 2 a.ack 0 r.elements r.fix r.address rest, ground-there 2 a.ack 0 r.elements r.fix r.address r.ground (replicate 11 0) f.speed f.rate)
+    let rest = flat_ground_vector r.over_ground ++ replicate 11 0 in
+    rw (ack-there 2 a.ack 0 r.elements r.fix r.address rest, elements-there 2 a.ack 0 r.elements r.fix r.address rest, fix-back 2 a.ack 0 r.elements r.fix r.address rest f.level, address-there 2 a.ack 0 r.elements r.fix r.address rest, ground-there 2 a.ack 0 r.elements r.fix r.address r.over_ground (replicate 11 0) f.speed f.rate)
 
 event-back : (a : EventReport) → ReportHolds a.report → event_at (flat_event a) ≡ a
 unfolding event_at
@@ -61,7 +61,7 @@ AirHolds (air.Positive n) = Unit {0}
 AirHolds (air.Abort n) = Unit {0}
 
 urgent-kind : (a : AckedEmergency) → get_or (flat_urgent a) 0 0 ≡ 2
-urgent-kind a = kind-there 2 a.ack 0 a.report.elements a.report.fix a.report.address (flat_ground_vector a.report.ground ++ replicate 11 0)
+urgent-kind a = kind-there 2 a.ack 0 a.report.elements a.report.fix a.report.address (flat_ground_vector a.report.over_ground ++ replicate 11 0)
 
 pub air-back : (k : Air) (count : ℕ) → AirHolds k → kind_at (flat_air k count) ≡ k
 unfolding kind_at flat_air

@@ -80,15 +80,15 @@ module _ (kind : ℕ) (ack : Bool) (event elements : ℕ) (x : Fix) (address : �
 -- the numbers with a sign of a report
 pub record ReportHolds (r : Report) : Type 0 where
   pub level : Holds r.fix.position.level
-  pub speed : Holds r.ground.speed
-  pub rate : Holds r.ground.rate
+  pub speed : Holds r.over_ground.speed
+  pub rate : Holds r.over_ground.rate
   pub climb : Holds r.air.rate
   pub temperature : Holds r.weather.temperature
 
 pub report-back : (kind : ℕ) (ack : Bool) (event : ℕ) (r : Report) → ReportHolds r → report_at (flat_report kind ack event r) ≡ r
 unfolding report_at flat_report
 report-back kind ack event r h =
-    let g = r.ground in
+    let g = r.over_ground in
     let v = r.air in
     let w = r.weather in
     let rest = flat_ground_vector g ++ (flat_air_vector v ++ flat_weather w) in

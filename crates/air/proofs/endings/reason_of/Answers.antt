@@ -1,0 +1,14 @@
+use Rattle.per.specs.Pdu.{read_pdu}
+use Rattle.pdu.specs.UplinkTable.{ground_c}
+use Rattle.air_answer.proofs.Readings.{good-case, bad-case}
+use mathlib.Core.Path.{refl, sym, ◌∙◌}
+use Rattle.air.specs.Endings.{reason_of}
+use Rattle.air.proofs.endings.reason_of.Goals as goal
+
+pub returns-in_default : goal.returns-in_default
+unfolding reason_of
+returns-in_default c = bad-case reason_of (read_pdu ground_c c.args.octets.now) _ (sym c.decode_ground-answer.ensures ∙ c.enum_told-1.given.1) 6 (λ m. refl)
+
+pub returns : goal.returns
+unfolding reason_of
+returns c = c.reason_in.ensures ∙ good-case reason_of (read_pdu ground_c c.args.octets.now) _ (sym c.decode_ground-answer.ensures ∙ c.answer-1.given.1)

@@ -1,0 +1,16 @@
+use borrow.Author.Tests.{ne_eqb}
+use Rattle.air_answer.specs.Events.{positive_event}
+use mathlib.Core.Path.{refl}
+use Rattle.air_answer.proofs.events.positive_event.Goals as goal
+
+pub returns-in-0 : goal.returns-in-0
+unfolding positive_event
+returns-in-0 c = rw c.in-0.keys1 refl
+
+pub returns-in-1 : goal.returns-in-1
+unfolding positive_event
+returns-in-1 c = rw c.in-0.keys2 refl
+
+pub returns-in_default : goal.returns-in_default
+unfolding positive_event
+returns-in_default c = simp (ne_eqb _ 0 c.in-0.rest.0.1, ne_eqb _ 1 c.in-0.rest.1) refl

@@ -1,0 +1,18 @@
+use borrow.Author.Tests.{eq-eqb, ne_eqb}
+use mathlib.Core.Path.{refl}
+use Prim.Native.Nat.{◌≤◌}
+use lib.Dec.{lit≤}
+use Rattle.air_bench.specs.Replies.{open_reply, setting_reply}
+use Rattle.air_bench.proofs.reply.set_line.Goals as goal
+
+pub returns-in_default : goal.returns-in_default
+unfolding setting_reply
+returns-in_default c = rw (← c.number_after-v.ensures, c.enum_told-1.given.1) c.refuse_line.ensures
+
+pub returns-then-refusal-ne0 : goal.returns-then-refusal-ne0
+unfolding setting_reply open_reply
+returns-then-refusal-ne0 c = rw (← c.number_after-v.ensures, c.v-1.given.1, ← c.«open».ensures, ne_eqb _ 0 c.if-refusal-ne0.true) c.refuse_line-then-refusal-ne0.ensures
+
+pub returns : goal.returns
+unfolding setting_reply open_reply
+returns c = rw (← c.number_after-v.ensures, c.v-1.given.1, ← c.«open».ensures, eq-eqb _ 0 c.if-refusal-ne0.false) (record { box_is = refl; text_is = c.put_text-a.ensures; short = lit≤ tt })

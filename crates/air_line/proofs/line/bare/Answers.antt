@@ -1,0 +1,4 @@
+use Rattle.air_line.proofs.line.bare.Goals as goal
+
+pub returns : goal.returns
+returns c = rw (← c.no_list-list.ensures)

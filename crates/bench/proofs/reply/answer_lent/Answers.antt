@@ -1,0 +1,6 @@
+use Rattle.ground.specs.Runs.{answered}
+use Rattle.bench.proofs.reply.answer_lent.Goals as goal
+
+pub returns : goal.returns
+unfolding answered
+returns c = rw c.call-1.given.1 c.elapse_lent.ensures

@@ -1,0 +1,17 @@
+use borrow.Author.Tests.{not-true, not-false, eq-eqb, ne_eqb}
+use mathlib.Core.Path.{refl}
+use Rattle.bench.specs.Replies.{open_reply, settings_reply}
+use lib.Dec.{lit≤}
+use Rattle.bench.proofs.reply.set_line.Goals as goal
+
+pub returns-then-not-good : goal.returns-then-not-good
+unfolding settings_reply open_reply
+returns-then-not-good c = rw (← c.parse_settings-set.ensures, not-true c.parse_settings-set.result.good c.if-not-good.true-raw) c.refuse_line.ensures
+
+pub returns-then-refusal-ne0 : goal.returns-then-refusal-ne0
+unfolding settings_reply open_reply
+returns-then-refusal-ne0 c = rw (← c.parse_settings-set.ensures, not-false c.parse_settings-set.result.good c.if-not-good.false-raw, ← c.«open».ensures, ne_eqb _ 0 c.if-refusal-ne0.true) c.refuse_line-then-refusal-ne0.ensures
+
+pub returns : goal.returns
+unfolding settings_reply open_reply
+returns c = rw (← c.parse_settings-set.ensures, not-false c.parse_settings-set.result.good c.if-not-good.false-raw, ← c.«open».ensures, eq-eqb _ 0 c.if-refusal-ne0.false) (record { box_is = refl; text_is = c.put_text-a.ensures; short = lit≤ tt })

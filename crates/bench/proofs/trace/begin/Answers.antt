@@ -1,0 +1,9 @@
+use mathlib.Core.Path.{refl}
+use lib.Dec.{lit≤}
+use Prim.Native.Nat.{◌-◌}
+use Rattle.bench.specs.Replies.{begun}
+use Rattle.bench.proofs.trace.begin.Goals as goal
+
+pub returns : goal.returns
+unfolding begun
+returns c = record { number_is = refl; box_is = rw c.idle_link-link.ensures; text_is = c.put_text-at.ensures; short = lit≤ tt }

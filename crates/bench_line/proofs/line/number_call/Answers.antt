@@ -1,0 +1,11 @@
+use borrow.Author.Tests.{eq-eqb, ne_eqb}
+use Rattle.bench_line.specs.Lines.{parsed_in, number_call}
+use Rattle.bench_line.proofs.line.number_call.Goals as goal
+
+pub returns-then-w-eq-ELAPSE : goal.returns-then-w-eq-ELAPSE
+unfolding number_call parsed_in
+returns-then-w-eq-ELAPSE c = λ o. rw (eq-eqb _ 4 c.if-w-eq-ELAPSE.true)
+
+pub returns : goal.returns
+unfolding number_call parsed_in
+returns c = λ o. rw (ne_eqb _ 4 c.if-w-eq-ELAPSE.false)

@@ -1,0 +1,13 @@
+use Rattle.channel.proofs.Laws.{length-mapped}
+use mathlib.Core.Path.{◌≡◌}
+use lib.ListN.{length, length-take}
+use Rattle.channel.specs.Channel.{held_in}
+use Rattle.std.proofs.Common.{rules}
+use Rattle.channel.proofs.count.Goals as goal
+
+whole : (c : tie.Start) → length c.args.c.letters ≡ 17
+whole c = search (rules, length-mapped)
+
+pub returns : goal.returns
+unfolding held_in
+returns c = rw (length-take c.args.c.n c.args.c.letters, whole c) c.least.ensures.is

@@ -1,0 +1,28 @@
+use Rattle.delivery.specs.Hearing.{came}
+use Rattle.text.proofs.Laws.{take-least}
+use Rattle.text.specs.Text.{Least}
+use lib.ListN.{length, take}
+use borrow.Author.Tests.{ne_eqb}
+use native.Mathlib.Omega.{arith}
+use Prim.Native.Nat.{ℕ}
+use mathlib.Core.Path.{◌≡◌, ap, ◌∙◌}
+use Rattle.std.proofs.Common.{rules}
+use Rattle.delivery.proofs.hear.came_count.Goals as goal
+
+whole : (c : tie.Start) → length c.args.l.octets ≡ 115
+whole c = search rules
+
+part : (c : tie.Start) (r : ℕ) → Least c.args.l.n 115 r → take r c.args.l.octets ≡ take c.args.l.n c.args.l.octets
+part c r h = ap (λ (j : ℕ). take j c.args.l.octets) h.is ∙ take-least c.args.l.n 115 c.args.l.octets (whole c)
+
+pub returns-then-l : goal.returns-then-l
+unfolding came
+returns-then-l c = record { is = rw c.if-l.true (part c _ c.least.ensures); within = omega (arith, whole c, c.least.ensures.within) }
+
+pub returns-then-l-eq-END : goal.returns-then-l-eq-END
+unfolding came
+returns-then-l-eq-END c = record { is = rw (c.if-l.false, c.if-l-eq-END.true); within = omega arith }
+
+pub returns : goal.returns
+unfolding came
+returns c = record { is = rw (c.if-l.false, ne_eqb _ 3 c.if-l-eq-END.false) (part c _ c.least-2.ensures); within = omega (arith, whole c, c.least-2.ensures.within) }

@@ -1,0 +1,44 @@
+use Rattle.flight_line.specs.GroundUsers.{ground_asked, ground_said}
+use Rattle.bench_line.specs.Lines.{parsed_in, ground_script}
+use Rattle.script.proofs.Rooms.{room_of}
+use Rattle.script.proofs.Heard.{with-room}
+use Rattle.text.proofs.Laws.{take-least}
+use Prim.Native.Nat.{◌≤◌}
+use native.Mathlib.Nat.{le_trans, min-le_left}
+use lib.Dec.{lit≤}
+use lib.ListN.{length, take, length-take}
+use lib.Seq.{length-take-le}
+use native.Mathlib.Omega.{arith}
+use mathlib.Core.Path.{refl, sym, ◌∙◌}
+use Rattle.flight_line.proofs.ground_user.ask_ground.Goals as goal
+
+pub returns-in_default : goal.returns-in_default
+unfolding ground_asked parsed_in
+returns-in_default c = let line = c.args.line.now in
+    let is = with-room ground_script (length c.line_room-octets.result) line (omega (arith, room_of 2048 c.line_room-octets.ensures)) in
+    rw (← is, ← c.parse_line-told.ensures, c.enum_told-1.given.1) c.refuse.ensures
+
+pub slice_bounds-octets-end : goal.slice_bounds-octets-end
+slice_bounds-octets-end c = omega (arith, c.least-m.ensures.within, c.parse_line-told.auto.octets, room_of 2048 c.line_room-octets.ensures)
+
+pub slice_bounds-turn_ground-end : goal.slice_bounds-turn_ground-end
+slice_bounds-turn_ground-end c = sym (length-take-le _ _ (omega (arith, c.least-m.ensures.within, c.parse_line-told.auto.octets, room_of 2048 c.line_room-octets.ensures)))
+
+pub slice_bounds-octets-end-2 : goal.slice_bounds-octets-end-2
+slice_bounds-octets-end-2 c = omega (arith, c.least-m.ensures.within, c.parse_line-told.auto.octets, room_of 2048 c.line_room-octets.ensures)
+
+pub slice_bounds-put_answer-end : goal.slice_bounds-put_answer-end
+slice_bounds-put_answer-end c = sym (length-take-le _ _ (omega (arith, c.least-m.ensures.within, c.parse_line-told.auto.octets, room_of 2048 c.line_room-octets.ensures)))
+
+pub returns : goal.returns
+unfolding ground_asked ground_said parsed_in
+returns c = let l = c.least-m in
+    let t = c.told-1 in
+    let line = c.args.line.now in
+    let long = room_of 2048 c.line_room-octets.ensures in
+    let octets = c.parse_line-told.new.1.0 in
+    let is = with-room ground_script (length c.line_room-octets.result) line (omega (arith, long)) in
+    let whole = c.parse_line-told.auto.octets ∙ long in
+    let few : length (take l.result octets) ≤ 2048 = omega (arith, l.ensures.within, length-take l.result octets, min-le_left l.result (length octets)) in
+    rw (← is, ← c.parse_line-told.ensures, t.given.1, ← take-least t.given.0.1.0 2048 octets whole, ← l.ensures.is, ← c.turn_ground-t.ensures)
+    (record { world_is = refl; text_is = c.put_answer-a.ensures.text_is; short = le_trans (c.put_answer-a.ensures.short few) (lit≤ tt) })

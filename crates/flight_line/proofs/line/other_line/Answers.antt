@@ -1,0 +1,23 @@
+use Rattle.flight_line.specs.Lines.{other_line}
+use borrow.Author.Tests.{ne_eqb}
+use Rattle.flight_line.proofs.line.other_line.Goals as goal
+
+pub returns-in-3 : goal.returns-in-3
+unfolding other_line
+returns-in-3 c = rw c.in-3.keys1 c.elapse_line.ensures
+
+pub returns-in-4 : goal.returns-in-4
+unfolding other_line
+returns-in-4 c = rw c.in-3.keys2 c.carry_line.ensures
+
+pub returns-in-5 : goal.returns-in-5
+unfolding other_line
+returns-in-5 c = rw c.in-3.keys3 c.carry_line-in-5.ensures
+
+pub returns-in-6 : goal.returns-in-6
+unfolding other_line
+returns-in-6 c = rw c.in-3.keys4 c.cut_line.ensures
+
+pub returns-in_default : goal.returns-in_default
+unfolding other_line
+returns-in_default c = rw (ne_eqb _ 3 c.in-3.rest.0.0.0.1, ne_eqb _ 4 c.in-3.rest.0.0.1, ne_eqb _ 5 c.in-3.rest.0.1, ne_eqb _ 6 c.in-3.rest.1) c.refuse_line.ensures

@@ -1,0 +1,22 @@
+use Rattle.ground.specs.Arrivals.{arrived}
+use lib.Dec.{eqb}
+use Prim.Native.Nat.{ℕ}
+use mathlib.Core.Path.{sym, ap, ◌∙◌}
+use borrow.Author.Tests.{not-true, not-false, eq-eqb, ne_eqb}
+use Rattle.ground.proofs.arrivals.data.Goals as goal
+
+pub returns-then-not-is_good : goal.returns-then-not-is_good
+unfolding arrived
+returns-then-not-is_good c = rw (sym c.is_good.ensures ∙ not-true _ c.if-not-is_good.true-raw) c.refuse.ensures
+
+pub returns-in-2 : goal.returns-in-2
+unfolding arrived
+returns-in-2 c = rw (sym c.is_good.ensures ∙ not-false _ c.if-not-is_good.false-raw, eq-eqb _ 2 c.in-2.keys1) c.take.ensures
+
+pub returns-in-3 : goal.returns-in-3
+unfolding arrived
+returns-in-3 c = rw (sym c.is_good.ensures ∙ not-false _ c.if-not-is_good.false-raw, ap (λ (k : ℕ). eqb k 2) c.in-2.keys2, eq-eqb _ 3 c.in-2.keys2) c.late.ensures
+
+pub returns-in_default : goal.returns-in_default
+unfolding arrived
+returns-in_default c = rw (sym c.is_good.ensures ∙ not-false _ c.if-not-is_good.false-raw, ne_eqb _ 2 c.in-2.rest.0.1, ne_eqb _ 3 c.in-2.rest.1) c.refuse-in_default.ensures

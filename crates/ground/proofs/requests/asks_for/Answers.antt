@@ -1,0 +1,18 @@
+use Rattle.ground_answer.specs.Events.{asks_for}
+use Rattle.ground_answer.proofs.Asking.{asks_none, asks-within}
+use native.Mathlib.Omega.{arith}
+use Rattle.ground.proofs.requests.asks_for.Goals as goal
+
+pub returns-in_default : goal.returns-in_default
+returns-in_default c = asks_none c.args.g c.in-PeriodicContract.keys2
+
+pub overflow_mul-result : goal.overflow_mul-result
+overflow_mul-result c = let r = asks-within _ (rw c.g-1.given.1 at c.requires) in omega (arith, rw c.interval-in-Minutes-1.given.1 at r.1)
+
+pub returns-in-Seconds : goal.returns-in-Seconds
+unfolding asks_for
+returns-in-Seconds c = rw (c.g-1.given.1, c.interval-1.given.1)
+
+pub returns-in-Minutes : goal.returns-in-Minutes
+unfolding asks_for
+returns-in-Minutes c = rw (c.g-1.given.1, c.interval-in-Minutes-1.given.1)

@@ -1,0 +1,11 @@
+use Rattle.ground_answer.specs.Events.{reason_in}
+use Rattle.ground_answer.proofs.AbortReasons.{no_abort}
+use Rattle.std.proofs.Common.{refl}
+use Rattle.ground_answer.proofs.events.reason_in.Goals as goal
+
+pub returns-in_default : goal.returns-in_default
+returns-in_default c = no_abort c.args.a c.in-Abort.keys2
+
+pub returns : goal.returns
+unfolding reason_in
+returns c = rw c.a-1.given.1 refl

@@ -1,0 +1,6 @@
+use Rattle.host_numbers.specs.DownlinkNumbers.{air_at}
+use Rattle.host_numbers.proofs.downlink.air_at.Goals as goal
+
+pub returns : goal.returns
+unfolding air_at
+returns c = rw (c.kind_at-kind.ensures, c.list_at-list.ensures)

@@ -1,0 +1,13 @@
+use mathlib.Core.Path.{◌≡◌, ◌∙◌}
+use lib.ListN.{length}
+use Rattle.link.specs.Names.{timers}
+use Rattle.host_record.proofs.Puts.{rest-run}
+use Rattle.std.proofs.Common.{rules}
+use Rattle.host_record.proofs.record.put_rest.Goals as goal
+
+wide : (c : tie.Start) → length c.args.l.left ≡ timers
+wide c = search rules
+
+pub returns : goal.returns
+returns c = c.put_intervals.ensures
+    ∙ rw (c.put_states.ensures, c.put_words.ensures) (rest-run c.args.l (wide c) c.args.out.now)

@@ -1,0 +1,13 @@
+use mathlib.Core.Path.{◌≡◌}
+use mathlib.Core.Bool.{true}
+use Prim.Native.Nat.{◌-◌, ◌≤◌}
+use Rattle.link.specs.Tests.{below}
+use Rattle.link.specs.Clock.{not_due}
+use Rattle.link.specs.Names.{timers}
+use Rattle.link.proofs.clock.none_due.Given as goal
+
+abbrev pub invariant-loop-t : goal.invariant-loop-t
+invariant-loop-t l = (l.t ≤ timers) × (below l.t (not_due l.n l.left) ≡ true)
+
+abbrev pub decreases-loop-t : goal.decreases-loop-t
+decreases-loop-t l = timers - l.t

@@ -1,0 +1,63 @@
+use Prim.Native.Nat.{◌-◌}
+use mathlib.Core.Path.{refl, sym, ◌∙◌}
+use native.Mathlib.Omega.{arith}
+use borrow.Author.Tests.{not-true, not-false}
+use Rattle.log_blocks.proofs.Walks.{walk-on}
+use Rattle.log_play.proofs.Walks.{data-place, turn_end, turn-unreadable, turn-stays, turn-goes}
+use Rattle.log_play.proofs.block.walk.Goals as goal
+
+pub loop-at-init : goal.loop-at-init
+loop-at-init c = (omega arith, refl)
+
+pub slice_bounds-play_record-count : goal.slice_bounds-play_record-count
+slice_bounds-play_record-count c = let q = c.loop-at in
+    let bl = c.args.block.now in
+    let g = c.f-1.given in
+    let e = sym c.record_at-f.ensures ∙ g.1 in
+    omega (arith, data-place bl q.at g.0.0 g.0.1.0 g.0.1.1.0 g.0.1.1.1.0 g.0.1.1.1.1.0 e)
+
+pub slice_bounds-play_record-start : goal.slice_bounds-play_record-start
+slice_bounds-play_record-start c = let q = c.loop-at in
+    let bl = c.args.block.now in
+    let g = c.f-1.given in
+    let e = sym c.record_at-f.ensures ∙ g.1 in
+    omega (arith, data-place bl q.at g.0.0 g.0.1.0 g.0.1.1.0 g.0.1.1.1.0 g.0.1.1.1.1.0 e)
+
+pub slice_bounds-play_record-end : goal.slice_bounds-play_record-end
+slice_bounds-play_record-end c = let q = c.loop-at in
+    let bl = c.args.block.now in
+    let g = c.f-1.given in
+    let e = sym c.record_at-f.ensures ∙ g.1 in
+    omega (arith, walk-on bl q.at c.requires.0 c.requires.1 g.0.0 g.0.1.0 g.0.1.1.0 g.0.1.1.1.0 g.0.1.1.1.1.0 e, c.requires.0)
+
+pub returns-then-not-s : goal.returns-then-not-s
+returns-then-not-s c = let q = c.loop-at in
+    let bl = c.args.block.now in
+    let g = c.f-1.given in
+    let e = sym c.record_at-f.ensures ∙ g.1 in
+    c.unplayed.ensures ∙ turn-stays bl q.at c.requires.0 c.requires.1 c.args.b q.setup g.0.0 g.0.1.0 g.0.1.1.0 g.0.1.1.1.0 g.0.1.1.1.1.0 e _ c.play_record-s.ensures (not-true _ c.if-not-s.true) ∙ q.invariant.1
+
+pub loop-at-smaller : goal.loop-at-smaller
+loop-at-smaller c = let q = c.loop-at in
+    let bl = c.args.block.now in
+    let g = c.f-1.given in
+    let e = sym c.record_at-f.ensures ∙ g.1 in
+    omega (arith, walk-on bl q.at c.requires.0 c.requires.1 g.0.0 g.0.1.0 g.0.1.1.0 g.0.1.1.1.0 g.0.1.1.1.1.0 e)
+
+pub loop-at-preserved : goal.loop-at-preserved
+loop-at-preserved c = let q = c.loop-at in
+    let bl = c.args.block.now in
+    let g = c.f-1.given in
+    let e = sym c.record_at-f.ensures ∙ g.1 in
+    ((walk-on bl q.at c.requires.0 c.requires.1 g.0.0 g.0.1.0 g.0.1.1.0 g.0.1.1.1.0 g.0.1.1.1.1.0 e).1, turn-goes bl q.at c.requires.0 c.requires.1 c.args.b q.setup g.0.0 g.0.1.0 g.0.1.1.0 g.0.1.1.1.0 g.0.1.1.1.1.0 e _ c.play_record-s.ensures (not-false _ c.if-not-s.false) ∙ q.invariant.1)
+
+pub returns-in-End : goal.returns-in-End
+returns-in-End c = let q = c.loop-at in
+    sym (turn_end c.args.block.now q.at c.requires.0 c.requires.1 c.args.b q.setup (sym c.record_at-f.ensures ∙ c.enum_told-1.given.1)) ∙ q.invariant.1
+
+pub returns-in-Unreadable : goal.returns-in-Unreadable
+returns-in-Unreadable c = let q = c.loop-at in
+    c.unplayed-in-Unreadable.ensures ∙ sym (turn-unreadable c.args.block.now q.at c.requires.0 c.requires.1 c.args.b q.setup (sym c.record_at-f.ensures ∙ c.enum_told-in-Unreadable-1.given.1)) ∙ q.invariant.1
+
+pub returns : goal.returns
+returns c = absurd (omega arith)

@@ -1,0 +1,42 @@
+use Prim.Native.Nat.{◌≤◌}
+use native.Mathlib.Nat.{le_antisymm}
+use native.Mathlib.Omega.{arith}
+use Rattle.per.proofs.Compose.{after-ext, in-alt, in-choice, nothing, num-most, climb}
+use Rattle.pdu.specs.UplinkTable.{ground_alt, ground_c}
+use Rattle.pdu.proofs.uplink.read_ground.Goals as goal
+
+pub returns-in-0 : goal.returns-in-0
+unfolding ground_c ground_alt
+returns-in-0 c = after-ext c.extension.ensures (in-choice _ _ _ 0 c.in-0.keys1 c.index-i.ensures (in-alt _ _ _ _ _ _ nothing))
+
+pub returns-in-1 : goal.returns-in-1
+unfolding ground_c
+returns-in-1 c = after-ext c.extension.ensures (in-choice _ _ _ 1 c.in-0.keys2 c.index-i.ensures c.read_cancel.ensures)
+
+pub returns-in-2 : goal.returns-in-2
+unfolding ground_c ground_alt
+returns-in-2 c = after-ext c.extension.ensures (in-choice _ _ _ 2 c.in-0.keys3 c.index-i.ensures (in-alt _ _ _ _ _ _ nothing))
+
+pub returns-in-3 : goal.returns-in-3
+unfolding ground_c
+returns-in-3 c = after-ext c.extension.ensures (in-choice _ _ _ 3 c.in-0.keys4 c.index-i.ensures c.read_demand.ensures)
+
+pub returns-in-4 : goal.returns-in-4
+unfolding ground_c
+returns-in-4 c = after-ext c.extension.ensures (in-choice _ _ _ 4 c.in-0.keys5 c.index-i.ensures c.read_event.ensures)
+
+pub returns-in-5 : goal.returns-in-5
+unfolding ground_c
+returns-in-5 c = after-ext c.extension.ensures (in-choice _ _ _ 5 c.in-0.keys6 c.index-i.ensures c.read_modify.ensures)
+
+pub returns-in-6 : goal.returns-in-6
+unfolding ground_c
+returns-in-6 c = after-ext c.extension.ensures (in-choice _ _ _ 6 c.in-0.keys7 c.index-i.ensures c.read_period.ensures)
+
+pub returns-in_default : goal.returns-in_default
+unfolding ground_c
+returns-in_default c = let i = c.index-i in
+    let k = i.result.value in
+    let r = c.in-0.rest in
+    let h : 7 ≤ k = climb k 6 (climb k 5 (climb k 4 (climb k 3 (climb k 2 (climb k 1 (climb k 0 (omega arith) r.0.0.0.0.0.0.1) r.0.0.0.0.0.1) r.0.0.0.0.1) r.0.0.0.1) r.0.0.1) r.0.1) r.1 in
+    after-ext c.extension.ensures (in-choice _ _ _ 7 (le_antisymm (num-most 0 7 i.ensures) h) i.ensures c.read_abort.ensures)

@@ -1,0 +1,12 @@
+use Rattle.text.proofs.Pages.{after}
+use Rattle.text.proofs.Laws.{take_min}
+use Rattle.pdu_words.specs.LineText.{written_text}
+use Rattle.pdu_words.proofs.code.put_written.Goals as goal
+
+pub returns-in-Octets : goal.returns-in-Octets
+unfolding written_text
+returns-in-Octets c = rw c.w-1.given.1 (after c.put_text-a.ensures (rw (c.shown-m.ensures.is, take_min _ _) at c.put_hex.ensures))
+
+pub returns-in-Refused : goal.returns-in-Refused
+unfolding written_text
+returns-in-Refused c = rw c.w-in-Refused-1.given.1 c.put_refused.ensures

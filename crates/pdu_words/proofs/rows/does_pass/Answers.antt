@@ -1,0 +1,24 @@
+use borrow.Author.Tests.{ne_eqb}
+use Rattle.pdu_words.specs.Rows.{passes}
+use Rattle.pdu_words.specs.CodeRows.{test_of}
+use Rattle.pdu_words.proofs.rows.does_pass.Goals as goal
+
+pub returns-in-0 : goal.returns-in-0
+unfolding passes test_of
+returns-in-0 c = rw c.in-0.keys1
+
+pub returns-in-1 : goal.returns-in-1
+unfolding passes test_of
+returns-in-1 c = rw c.in-0.keys2
+
+pub returns-in-2 : goal.returns-in-2
+unfolding passes test_of
+returns-in-2 c = rw c.in-0.keys3
+
+pub returns-in-3 : goal.returns-in-3
+unfolding passes test_of
+returns-in-3 c = rw c.in-0.keys4
+
+pub returns-in_default : goal.returns-in_default
+unfolding passes test_of
+returns-in_default c = rw (ne_eqb _ 0 c.in-0.rest.0.0.0.1, ne_eqb _ 1 c.in-0.rest.0.0.1, ne_eqb _ 2 c.in-0.rest.0.1, ne_eqb _ 3 c.in-0.rest.1)

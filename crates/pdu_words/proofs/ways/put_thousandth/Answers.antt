@@ -1,0 +1,13 @@
+use mathlib.Core.Path.{refl}
+use borrow.Author.Tests.{eq-eqb, ne_eqb}
+use Rattle.text.proofs.Pages.{after}
+use Rattle.pdu_words.specs.Ways.{thousandth_text}
+use Rattle.pdu_words.proofs.ways.put_thousandth.Goals as goal
+
+pub returns-then-n-eq0 : goal.returns-then-n-eq0
+unfolding thousandth_text
+returns-then-n-eq0 c = rw (eq-eqb _ 0 c.if-n-eq0.true) (after c.put_byte-a.ensures (after c.put_two-a.ensures (record { is = refl })))
+
+pub returns : goal.returns
+unfolding thousandth_text
+returns c = rw (ne_eqb _ 0 c.if-n-eq0.false) (after c.put_byte-a.ensures (after c.put_two-a.ensures c.put_byte.ensures))

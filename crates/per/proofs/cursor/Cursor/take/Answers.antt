@@ -1,0 +1,31 @@
+use native.Mathlib.Omega.{arith}
+use Rattle.per.proofs.Octets.{window-most}
+use Rattle.per.proofs.Leaf.{take-kept, take_short, take-wide, take-good, run-below}
+use Rattle.per.proofs.cursor.Cursor.take.Goals as goal
+
+pub returns-then-self-ne0 : goal.returns-then-self-ne0
+returns-then-self-ne0 c = take-kept _ _ _ c.if-self-ne0.true
+
+pub returns-then-left-w : goal.returns-then-left-w
+returns-then-left-w c = rw c.refused.ensures (take_short _ _ _ (omega arith) (omega arith))
+
+pub overflow_cast-result : goal.overflow_cast-result
+overflow_cast-result c = record { fits = run-below 32 _ _ _ _ c.bits_at-v.ensures (omega arith) }
+
+pub overflow_add-result : goal.overflow_add-result
+overflow_add-result c = omega (arith, window-most c.args.s.now)
+
+pub returns-then-w-le8 : goal.returns-then-w-le8
+returns-then-w-le8 c = take-good _ _ _ _ (omega arith) (omega arith) (omega arith) c.bits_at-v.ensures
+
+pub returns-then-w-gt32 : goal.returns-then-w-gt32
+returns-then-w-gt32 c = rw c.refused-then-w-gt32.ensures (take-wide _ _ _ (omega arith) (omega arith) c.if-w-gt32.true)
+
+pub overflow_cast-result-2 : goal.overflow_cast-result-2
+overflow_cast-result-2 c = record { fits = run-below 32 _ _ _ _ c.bits_at-v-2.ensures (omega arith) }
+
+pub overflow_add-result-2 : goal.overflow_add-result-2
+overflow_add-result-2 c = omega (arith, window-most c.args.s.now)
+
+pub returns : goal.returns
+returns c = take-good _ _ _ _ (omega arith) (omega arith) (omega arith) c.bits_at-v-2.ensures

@@ -1,0 +1,10 @@
+use native.Mathlib.Omega.{arith}
+use Rattle.per.proofs.Octets.{window-most}
+use Rattle.per.proofs.Runs.{join}
+use Rattle.per.proofs.read_bits.quad.Goals as goal
+
+pub overflow_add-i : goal.overflow_add-i
+overflow_add-i c = omega (arith, window-most c.args.s.now)
+
+pub returns : goal.returns
+returns c = (join _ _ _ 16 16 _ _ c.pair-a.ensures.0 c.pair-b.ensures.0 (omega arith), omega arith)

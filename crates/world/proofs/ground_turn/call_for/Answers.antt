@@ -1,0 +1,23 @@
+use Rattle.world.specs.GroundTurns.{call_for}
+use borrow.Author.Tests.{ne_eqb}
+use Rattle.world.proofs.ground_turn.call_for.Goals as goal
+
+pub returns-in-1 : goal.returns-in-1
+unfolding call_for
+returns-in-1 c = rw c.in-1.keys1
+
+pub returns-in-3 : goal.returns-in-3
+unfolding call_for
+returns-in-3 c = rw c.in-1.keys2
+
+pub returns-in-4 : goal.returns-in-4
+unfolding call_for
+returns-in-4 c = rw c.in-1.keys3
+
+pub returns-in-5 : goal.returns-in-5
+unfolding call_for
+returns-in-5 c = rw c.in-1.keys4
+
+pub returns-in_default : goal.returns-in_default
+unfolding call_for
+returns-in_default c = rw (ne_eqb _ 1 c.in-1.rest.0.0.0.1, ne_eqb _ 3 c.in-1.rest.0.0.1, ne_eqb _ 4 c.in-1.rest.0.1, ne_eqb _ 5 c.in-1.rest.1)
