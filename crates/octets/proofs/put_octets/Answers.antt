@@ -16,7 +16,7 @@ pub loop-i-preserved : goal.loop-i-preserved
 loop-i-preserved c = let p = c.put_octet in
     let a = c.args in (
       omega arith,
-      p.auto.0 ∙ c.loop-i.invariant.1,
+      p.auto.out ∙ c.loop-i.invariant.1,
       rw p.ensures (put_step a.s.now c.loop-i.out a.at c.loop-i.i (omega arith)) ∙ c.loop-i.invariant.2,
     )
 

@@ -9,12 +9,12 @@ use Rattle.air.proofs.arrivals.cancel_all.Goals as goal
 
 pub returns-in_default : goal.returns-in_default
 unfolding all_cancelled
-returns-in_default c = c.abort.ensures ∙ bad-case (all_cancelled c.args.l) (read_pdu ground_c c.args.octets.now) _ (sym c.decode_ground-answer.ensures ∙ c.enum_told-1.given.1) (aborted c.args.l 2) (λ m. refl)
+returns-in_default c = c.abort.ensures ∙ bad-case (all_cancelled c.args.l) (read_pdu ground_c c.args.octets.now) _ (sym c.decode_ground-answer.ensures ∙ c.in_default.is) (aborted c.args.l 2) (λ m. refl)
 
 pub returns-in-CancelAll : goal.returns-in-CancelAll
 unfolding all_cancelled
-returns-in-CancelAll c = rw (c.end.ensures, c.own.ensures) (rw c.enum_told-in-CancelAll-1.given.1 at (good-case (all_cancelled c.args.l) (read_pdu ground_c c.args.octets.now) _ (sym c.decode_ground-answer.ensures ∙ c.answer-1.given.1)))
+returns-in-CancelAll c = rw (c.end.ensures, c.own.ensures) (rw c.in-CancelAll.is at (good-case (all_cancelled c.args.l) (read_pdu ground_c c.args.octets.now) _ (sym c.decode_ground-answer.ensures ∙ c.in-Good.is)))
 
 pub returns-in_default-g : goal.returns-in_default-g
 unfolding all_cancelled
-returns-in_default-g c = rw c.abort-in_default-g.ensures (rw (no_cancel_all _ c.in-CancelAll.keys2) at (good-case (all_cancelled c.args.l) (read_pdu ground_c c.args.octets.now) _ (sym c.decode_ground-answer.ensures ∙ c.answer-1.given.1)))
+returns-in_default-g c = rw c.abort-in_default-g.ensures (rw (no_cancel_all _ c.in-CancelAll.keys2) at (good-case (all_cancelled c.args.l) (read_pdu ground_c c.args.octets.now) _ (sym c.decode_ground-answer.ensures ∙ c.in-Good.is)))

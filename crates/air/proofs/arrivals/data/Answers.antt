@@ -9,7 +9,7 @@ returns-then-not-is_good c = rw (sym c.is_good.ensures ∙ not-true _ c.if-not-i
 
 pub returns-in-2 : goal.returns-in-2
 unfolding arrived
-returns-in-2 c = rw (sym c.is_good.ensures ∙ not-false _ c.if-not-is_good.false-raw, eq-eqb _ 2 c.in-2.keys1) c.take.ensures
+returns-in-2 c = rw (sym c.is_good.ensures ∙ not-false _ c.if-not-is_good.false-raw, eq-eqb _ 2 c.in-2.is) c.take.ensures
 
 pub returns-in_default : goal.returns-in_default
 unfolding arrived

@@ -7,8 +7,8 @@ use Rattle.air.proofs.endings.reason_of.Goals as goal
 
 pub returns-in_default : goal.returns-in_default
 unfolding reason_of
-returns-in_default c = bad-case reason_of (read_pdu ground_c c.args.octets.now) _ (sym c.decode_ground-answer.ensures ∙ c.enum_told-1.given.1) 6 (λ m. refl)
+returns-in_default c = bad-case reason_of (read_pdu ground_c c.args.octets.now) _ (sym c.decode_ground-answer.ensures ∙ c.in_default.is) 6 (λ m. refl)
 
 pub returns : goal.returns
 unfolding reason_of
-returns c = c.reason_in.ensures ∙ good-case reason_of (read_pdu ground_c c.args.octets.now) _ (sym c.decode_ground-answer.ensures ∙ c.answer-1.given.1)
+returns c = c.reason_in.ensures ∙ good-case reason_of (read_pdu ground_c c.args.octets.now) _ (sym c.decode_ground-answer.ensures ∙ c.in-Good.is)

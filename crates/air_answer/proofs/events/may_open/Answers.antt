@@ -4,11 +4,11 @@ use Rattle.air_answer.proofs.events.may_open.Goals as goal
 
 pub returns-in-CancelEmergency : goal.returns-in-CancelEmergency
 unfolding opens
-returns-in-CancelEmergency c = rw c.enum_told-1.given.1
+returns-in-CancelEmergency c = rw c.in-CancelEmergency.is
 
 pub returns-in-Emergency : goal.returns-in-Emergency
 unfolding opens
-returns-in-Emergency c = rw c.enum_told-in-Emergency-1.given.1
+returns-in-Emergency c = rw c.in-Emergency.is
 
 pub returns-in_default : goal.returns-in_default
 returns-in_default c = may-go c.args.a c.in-CancelEmergency.keys3

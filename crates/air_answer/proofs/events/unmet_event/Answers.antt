@@ -5,15 +5,15 @@ use Rattle.air_answer.proofs.events.unmet_event.Goals as goal
 
 pub returns-in-0 : goal.returns-in-0
 unfolding unmet_event
-returns-in-0 c = rw c.in-0.keys1 refl
+returns-in-0 c = rw c.in-0.is refl
 
 pub returns-in-1 : goal.returns-in-1
 unfolding unmet_event
-returns-in-1 c = rw c.in-0.keys2 refl
+returns-in-1 c = rw c.in-1.is refl
 
 pub returns-in-2 : goal.returns-in-2
 unfolding unmet_event
-returns-in-2 c = rw c.in-0.keys3 refl
+returns-in-2 c = rw c.in-2.is refl
 
 pub returns-in_default : goal.returns-in_default
 unfolding unmet_event

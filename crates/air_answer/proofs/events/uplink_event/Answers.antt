@@ -3,4 +3,4 @@ use Rattle.air_answer.proofs.events.uplink_event.Goals as goal
 
 pub returns-in-CancelContract : goal.returns-in-CancelContract
 unfolding uplink_event
-returns-in-CancelContract c = rw c.g-1.given.1 c.cancel_event.ensures
+returns-in-CancelContract c = rw c.in-CancelContract.is c.cancel_event.ensures

@@ -2,7 +2,7 @@ use Rattle.air_answer.proofs.Outgoings.{letter-goes, letter-stays}
 use Rattle.air_answer.proofs.sent.write.Goals as goal
 
 pub returns-in-Octets : goal.returns-in-Octets
-returns-in-Octets c = letter-goes _ _ c.w-1.given.1 c.encode_air-w.ensures
+returns-in-Octets c = letter-goes _ _ c.in-Octets.is c.encode_air-w.ensures
 
 pub returns-in-Refused : goal.returns-in-Refused
-returns-in-Refused c = rw c.nothing-sent.ensures (letter-stays _ _ c.w-in-Refused-1.given.1 c.encode_air-w.ensures)
+returns-in-Refused c = rw c.nothing-sent.ensures (letter-stays _ _ c.in-Refused.is c.encode_air-w.ensures)

@@ -7,12 +7,12 @@ use Rattle.air_bench.proofs.reply.set_line.Goals as goal
 
 pub returns-in_default : goal.returns-in_default
 unfolding setting_reply
-returns-in_default c = rw (← c.number_after-v.ensures, c.enum_told-1.given.1) c.refuse_line.ensures
+returns-in_default c = rw (← c.number_after-v.ensures, c.in_default.is) c.refuse_line.ensures
 
 pub returns-then-refusal-ne0 : goal.returns-then-refusal-ne0
 unfolding setting_reply open_reply
-returns-then-refusal-ne0 c = rw (← c.number_after-v.ensures, c.v-1.given.1, ← c.«open».ensures, ne_eqb _ 0 c.if-refusal-ne0.true) c.refuse_line-then-refusal-ne0.ensures
+returns-then-refusal-ne0 c = rw (← c.number_after-v.ensures, c.in-Value.is, ← c.«open».ensures, ne_eqb _ 0 c.if-refusal-ne0.true) c.refuse_line-then-refusal-ne0.ensures
 
 pub returns : goal.returns
 unfolding setting_reply open_reply
-returns c = rw (← c.number_after-v.ensures, c.v-1.given.1, ← c.«open».ensures, eq-eqb _ 0 c.if-refusal-ne0.false) (record { box_is = refl; text_is = c.put_text-a.ensures; short = lit≤ tt })
+returns c = rw (← c.number_after-v.ensures, c.in-Value.is, ← c.«open».ensures, eq-eqb _ 0 c.if-refusal-ne0.false) (record { box_is = refl; text_is = c.put_text-a.ensures; short = lit≤ tt })

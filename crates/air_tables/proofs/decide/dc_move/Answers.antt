@@ -6,31 +6,31 @@ use Rattle.air_tables.proofs.decide.dc_move.Goals as goal
 
 pub returns-in-4 : goal.returns-in-4
 unfolding dc_move dc_rows
-returns-in-4 c = rw (c.in-4.keys1, c.in-0.keys1) c.go.ensures
+returns-in-4 c = rw (c.in-4.is, c.in-0.is) c.go.ensures
 
 pub returns-in_default-kind : goal.returns-in_default-kind
 unfolding dc_move dc_rows
-returns-in_default-kind c = rw c.in-0.keys1 (simp (ne_eqb _ 4 c.in-4.rest.1) c.unlisted.ensures)
+returns-in_default-kind c = rw c.in-0.is (simp (ne_eqb _ 4 c.in-4.rest.1) c.unlisted.ensures)
 
 pub returns-in-0-kind : goal.returns-in-0-kind
 unfolding dc_move dc_rows
-returns-in-0-kind c = cases c.in-0-kind.keys1 (λ k. rw (k, c.in-0.keys2) c.go-in-0-kind.ensures) (λ k. rw (k, c.in-0.keys2) c.go-in-0-kind.ensures)
+returns-in-0-kind c = cases c.in-0-kind.is (λ k. rw (k, c.in-1.is) c.go-in-0-kind.ensures) (λ k. rw (k, c.in-1.is) c.go-in-0-kind.ensures)
 
 pub returns-in-1-kind : goal.returns-in-1-kind
 unfolding dc_move dc_rows
-returns-in-1-kind c = rw (c.in-0-kind.keys2, c.in-0.keys2) c.go-in-1-kind.ensures
+returns-in-1-kind c = rw (c.in-1-kind.is, c.in-1.is) c.go-in-1-kind.ensures
 
 pub returns-in_default-kind-2 : goal.returns-in_default-kind-2
 unfolding dc_move dc_rows
-returns-in_default-kind-2 c = rw c.in-0.keys2 (simp (ne_eqb _ 1 c.in-0-kind.rest.1, ne_eqb _ 0 (λ k. c.in-0-kind.rest.0.1 (inl k)), ne_eqb _ 2 (λ k. c.in-0-kind.rest.0.1 (inr k))) c.unlisted-in_default-kind-2.ensures)
+returns-in_default-kind-2 c = rw c.in-1.is (simp (ne_eqb _ 1 c.in-0-kind.rest.1, ne_eqb _ 0 (λ k. c.in-0-kind.rest.0.1 (inl k)), ne_eqb _ 2 (λ k. c.in-0-kind.rest.0.1 (inr k))) c.unlisted-in_default-kind-2.ensures)
 
 pub returns-in-3 : goal.returns-in-3
 unfolding dc_move dc_rows
-returns-in-3 c = rw (c.in-3.keys1, c.in-0.keys3) c.go-in-3.ensures
+returns-in-3 c = rw (c.in-3.is, c.in-2.is) c.go-in-3.ensures
 
 pub returns-in_default-kind-3 : goal.returns-in_default-kind-3
 unfolding dc_move dc_rows
-returns-in_default-kind-3 c = rw c.in-0.keys3 (simp (ne_eqb _ 3 c.in-3.rest.1) c.unlisted-in_default-kind-3.ensures)
+returns-in_default-kind-3 c = rw c.in-2.is (simp (ne_eqb _ 3 c.in-3.rest.1) c.unlisted-in_default-kind-3.ensures)
 
 pub returns-in_default : goal.returns-in_default
 unfolding dc_move dc_rows

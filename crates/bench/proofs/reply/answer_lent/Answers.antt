@@ -3,4 +3,4 @@ use Rattle.bench.proofs.reply.answer_lent.Goals as goal
 
 pub returns : goal.returns
 unfolding answered
-returns c = rw c.call-1.given.1 c.elapse_lent.ensures
+returns c = rw c.in-Elapse.is c.elapse_lent.ensures

@@ -17,7 +17,7 @@ pub returns-in_default : goal.returns-in_default
 unfolding play_reply parsed_in
 returns-in_default c = let line = c.args.line.now in
     let is = with-room ground_script (length c.line_room-octets.result) line (omega (arith, room_of 2048 c.line_room-octets.ensures)) in
-    rw (← is, ← c.parse_line-told.ensures, c.enum_told-1.given.1) c.refuse_line.ensures
+    rw (← is, ← c.parse_line-told.ensures, c.in_default.is) c.refuse_line.ensures
 
 pub slice_bounds-answer_lent-end : goal.slice_bounds-answer_lent-end
 slice_bounds-answer_lent-end c = sym (length-take-le _ _ (omega (arith, c.least-m.ensures.within)))
@@ -34,5 +34,5 @@ returns c = let line = c.args.line.now in
     let is = with-room ground_script (length blank.result) line (omega arith) in
     let whole = c.parse_line-told.auto.octets ∙ long in
     let short : length (take c.least-m.result octets) ≤ 2048 = omega (arith, c.least-m.ensures.within, length-take c.least-m.result octets, min-le_left c.least-m.result (length octets)) in
-    rw (← is, ← c.parse_line-told.ensures, c.told-1.given.1, ← take-least c.told-1.given.0.1.0 2048 octets whole, ← c.least-m.ensures.is, ← c.answer_lent-a.ensures)
+    rw (← is, ← c.parse_line-told.ensures, c.in-Makes.is, ← take-least c.in-Makes.n 2048 octets whole, ← c.least-m.ensures.is, ← c.answer_lent-a.ensures)
     (record { box_is = refl; text_is = c.put_answer-e.ensures.text_is; short = le_trans (c.put_answer-e.ensures.short short) (lit≤ tt) })

@@ -10,17 +10,16 @@ use Rattle.bench_line.specs.AnswerText.{answer_text}
 use Rattle.std.proofs.Common.{rules}
 use Rattle.bench_line.proofs.answer.put_answer.Goals as goal
 
-whole : (c : tie.Start) → length c.args.said.sent.octets ≡ SENT-MOST
-whole c = search rules
-
 pub slice_bounds-octets-end : goal.slice_bounds-octets-end
-slice_bounds-octets-end c = omega (arith, c.least-m.ensures.within, whole c)
+slice_bounds-octets-end c = let whole : length c.args.said.sent.octets ≡ SENT-MOST = search rules in
+    omega (arith, c.least-m.ensures.within, whole)
 
 pub returns : goal.returns
 unfolding answer_text
-returns c = let low = c.least-m in
+returns c = let whole : length c.args.said.sent.octets ≡ SENT-MOST = search rules in
+    let low = c.least-m in
     let octets = c.args.said.sent.octets in
     let b = c.put_brief.ensures in
-    let m : take low.result octets ≡ take c.args.said.sent.n octets = ap (λ (j : ℕ). take j octets) low.ensures.is ∙ take-least c.args.said.sent.n SENT-MOST octets (whole c) in
-    let few : length (take c.args.said.sent.n octets) ≤ 2048 = omega (arith, length-take c.args.said.sent.n octets, min-le_right c.args.said.sent.n (length octets), whole c) in
+    let m : take low.result octets ≡ take c.args.said.sent.n octets = ap (λ (j : ℕ). take j octets) low.ensures.is ∙ take-least c.args.said.sent.n SENT-MOST octets (whole) in
+    let few : length (take c.args.said.sent.n octets) ≤ 2048 = omega (arith, length-take c.args.said.sent.n octets, min-le_right c.args.said.sent.n (length octets), whole) in
     record { text_is = rw (← m) b.text_is; short = rw (← m) (b.short (refl {a = true}) (rw m few)) }

@@ -5,12 +5,12 @@ use Rattle.bench_line.proofs.line.make_call.Goals as goal
 
 pub returns-in-Octets : goal.returns-in-Octets
 unfolding held_in call_of
-returns-in-Octets c = rw c.held-1.given.1 c.octets_call.ensures
+returns-in-Octets c = rw c.in-Octets.is c.octets_call.ensures
 
 pub returns-in-Number : goal.returns-in-Number
 unfolding held_in call_of
-returns-in-Number c = rw c.held-in-Number-1.given.1 (c.number_call.ensures _)
+returns-in-Number c = rw c.in-Number.is (c.number_call.ensures _)
 
 pub returns-in-Unread : goal.returns-in-Unread
 unfolding held_in call_of parsed_in
-returns-in-Unread c = rw c.enum_told-1.given.1
+returns-in-Unread c = rw c.in-Unread.is

@@ -11,39 +11,39 @@ slice_bounds-decode_ground-end c = sym (length-take-le _ _ c.least-m.ensures.wit
 
 pub returns-in-2 : goal.returns-in-2
 unfolding octets_call
-returns-in-2 c = rw (c.in-2.keys1, c.request_call.ensures, c.decode_ground.ensures, c.least-m.ensures.is, take_min _ _) (request-heard _ _)
+returns-in-2 c = rw (c.in-2.is, c.request_call.ensures, c.decode_ground.ensures, c.least-m.ensures.is, take_min _ _) (request-heard _ _)
 
 pub returns-in-3 : goal.returns-in-3
 unfolding octets_call parsed_in
-returns-in-3 c = rw c.in-2.keys2
+returns-in-3 c = rw c.in-3.is
 
 pub returns-in-5 : goal.returns-in-5
 unfolding octets_call parsed_in
-returns-in-5 c = rw c.in-2.keys3
+returns-in-5 c = rw c.in-5.is
 
 pub returns-in-6 : goal.returns-in-6
 unfolding octets_call parsed_in
-returns-in-6 c = rw c.in-2.keys4
+returns-in-6 c = rw c.in-6.is
 
 pub returns-in-7 : goal.returns-in-7
 unfolding octets_call parsed_in
-returns-in-7 c = rw c.in-2.keys5
+returns-in-7 c = rw c.in-7.is
 
 pub returns-in-8 : goal.returns-in-8
 unfolding octets_call parsed_in
-returns-in-8 c = rw c.in-2.keys6
+returns-in-8 c = rw c.in-8.is
 
 pub returns-in-9 : goal.returns-in-9
 unfolding octets_call parsed_in
-returns-in-9 c = rw c.in-2.keys7
+returns-in-9 c = rw c.in-9.is
 
 pub returns-in-10 : goal.returns-in-10
 unfolding octets_call parsed_in
-returns-in-10 c = rw c.in-2.keys8
+returns-in-10 c = rw c.in-10.is
 
 pub returns-in-11 : goal.returns-in-11
 unfolding octets_call parsed_in
-returns-in-11 c = rw c.in-2.keys9
+returns-in-11 c = rw c.in-11.is
 
 pub returns-in_default : goal.returns-in_default
 unfolding octets_call parsed_in

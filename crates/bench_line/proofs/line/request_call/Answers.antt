@@ -3,8 +3,8 @@ use Rattle.bench_line.proofs.line.request_call.Goals as goal
 
 pub returns-in-Good : goal.returns-in-Good
 unfolding request_call
-returns-in-Good c = rw c.a-1.given.1
+returns-in-Good c = rw c.in-Good.is
 
 pub returns-in-Refused : goal.returns-in-Refused
 unfolding request_call
-returns-in-Refused c = rw c.enum_told-1.given.1
+returns-in-Refused c = rw c.in-Refused.is

@@ -10,9 +10,6 @@ use mathlib.Core.Path.{◌≡◌, refl, sym, ◌∙◌}
 use Rattle.std.proofs.Common.{rules}
 use Rattle.delivery.proofs.hear.hear_air.Goals as goal
 
-whole : (c : tie.Start) → length c.args.l.octets ≡ 115
-whole c = search rules
-
 pub returns-then-not-is_heard : goal.returns-then-not-is_heard
 returns-then-not-is_heard c = rw (air-over (world_of c.args.w) c.args.l (sym c.is_heard.ensures ∙ not-true c.is_heard.result c.if-not-is_heard.true-raw)) c.say.ensures
 
@@ -30,7 +27,8 @@ slice_bounds-put_air-end c = sym (length-take-le _ _ c.came_count-m.ensures.with
 
 pub returns : goal.returns
 unfolding air_said
-returns c = let t = c.turn_air-t in
+returns c = let whole : length c.args.l.octets ≡ 115 = search rules in
+    let t = c.turn_air-t in
     let h = c.is_heard in
     rw (air-told (world_of c.args.w) c.args.l (sym h.ensures ∙ not-false h.result c.if-not-is_heard.false-raw), ← c.came_count-m.ensures.is, ← c.call_for.ensures, ← c.no_list.ensures, ← t.ensures)
-    (record { world_is = refl; stays_is = refl; text_is = c.put_air-a.ensures.text_is; short = c.put_air-a.ensures.short (taken c.came_count-m.result c.args.l.octets (omega (arith, whole c))) })
+    (record { world_is = refl; stays_is = refl; text_is = c.put_air-a.ensures.text_is; short = c.put_air-a.ensures.short (taken c.came_count-m.result c.args.l.octets (omega (arith, whole))) })

@@ -16,7 +16,7 @@ pub returns-in_default : goal.returns-in_default
 unfolding air_asked parsed_in parsed_with
 returns-in_default c = let line = c.args.line.now in
     let is = with-room air_script (length c.line_room-octets.result) line (omega (arith, room_of 2048 c.line_room-octets.ensures)) in
-    rw (← is, ← c.parse_line-told.ensures, c.enum_told-1.given.1) c.refuse.ensures
+    rw (← is, ← c.parse_line-told.ensures, c.in_default.is) c.refuse.ensures
 
 pub slice_bounds-octets-end : goal.slice_bounds-octets-end
 slice_bounds-octets-end c = omega (arith, c.least-m.ensures.within, c.parse_line-told.auto.octets, room_of 2048 c.line_room-octets.ensures)

@@ -8,12 +8,12 @@ returns-then-tail-eq0 c = rw c.if-tail-eq0.true
 
 pub returns-in_default : goal.returns-in_default
 unfolding count_in count_of
-returns-in_default c = rw (ne_eqb _ 0 c.if-tail-eq0.false, ← c.number_after-v.ensures, c.enum_told-1.given.1)
+returns-in_default c = rw (ne_eqb _ 0 c.if-tail-eq0.false, ← c.number_after-v.ensures, c.in_default.is)
 
 pub returns-then-k-have : goal.returns-then-k-have
 unfolding count_in count_of
-returns-then-k-have c = rw (ne_eqb _ 0 c.if-tail-eq0.false, ← c.number_after-v.ensures, c.v-1.given.1, le-leb _ _ c.if-k-have.true)
+returns-then-k-have c = rw (ne_eqb _ 0 c.if-tail-eq0.false, ← c.number_after-v.ensures, c.in-Value.is, le-leb _ _ c.if-k-have.true)
 
 pub returns : goal.returns
 unfolding count_in count_of
-returns c = rw (ne_eqb _ 0 c.if-tail-eq0.false, ← c.number_after-v.ensures, c.v-1.given.1, lt-leb _ _ c.if-k-have.false)
+returns c = rw (ne_eqb _ 0 c.if-tail-eq0.false, ← c.number_after-v.ensures, c.in-Value.is, lt-leb _ _ c.if-k-have.false)

@@ -21,11 +21,11 @@ slice_bounds-other_line-count c = c.word_end-e.ensures.within
 
 pub returns-in-1 : goal.returns-in-1
 unfolding flight_as
-returns-in-1 c = rw (short-line (world_of c.args.w) c.args.number c.args.line.now c.find-word.result c.if-line-gt-LONGEST.false (c.find-word.ensures ∙ ap (λ (e : ℕ). found_from 0 (take e c.args.line.now) flight_words) c.word_end-e.ensures.is), c.in-1.keys1) c.ground_line.ensures
+returns-in-1 c = rw (short-line (world_of c.args.w) c.args.number c.args.line.now c.find-word.result c.if-line-gt-LONGEST.false (c.find-word.ensures ∙ ap (λ (e : ℕ). found_from 0 (take e c.args.line.now) flight_words) c.word_end-e.ensures.is), c.in-1.is) c.ground_line.ensures
 
 pub returns-in-2 : goal.returns-in-2
 unfolding flight_as
-returns-in-2 c = rw (short-line (world_of c.args.w) c.args.number c.args.line.now c.find-word.result c.if-line-gt-LONGEST.false (c.find-word.ensures ∙ ap (λ (e : ℕ). found_from 0 (take e c.args.line.now) flight_words) c.word_end-e.ensures.is), c.in-1.keys2) c.air_line.ensures
+returns-in-2 c = rw (short-line (world_of c.args.w) c.args.number c.args.line.now c.find-word.result c.if-line-gt-LONGEST.false (c.find-word.ensures ∙ ap (λ (e : ℕ). found_from 0 (take e c.args.line.now) flight_words) c.word_end-e.ensures.is), c.in-2.is) c.air_line.ensures
 
 pub returns-in_default : goal.returns-in_default
 unfolding flight_as

@@ -4,19 +4,19 @@ use Rattle.flight_line.proofs.line.other_line.Goals as goal
 
 pub returns-in-3 : goal.returns-in-3
 unfolding other_line
-returns-in-3 c = rw c.in-3.keys1 c.elapse_line.ensures
+returns-in-3 c = rw c.in-3.is c.elapse_line.ensures
 
 pub returns-in-4 : goal.returns-in-4
 unfolding other_line
-returns-in-4 c = rw c.in-3.keys2 c.carry_line.ensures
+returns-in-4 c = rw c.in-4.is c.carry_line.ensures
 
 pub returns-in-5 : goal.returns-in-5
 unfolding other_line
-returns-in-5 c = rw c.in-3.keys3 c.carry_line-in-5.ensures
+returns-in-5 c = rw c.in-5.is c.carry_line-in-5.ensures
 
 pub returns-in-6 : goal.returns-in-6
 unfolding other_line
-returns-in-6 c = rw c.in-3.keys4 c.cut_line.ensures
+returns-in-6 c = rw c.in-6.is c.cut_line.ensures
 
 pub returns-in_default : goal.returns-in_default
 unfolding other_line

@@ -11,11 +11,11 @@ returns-then-not-is_good c = rw (sym c.is_good.ensures ∙ not-true _ c.if-not-i
 
 pub returns-in-2 : goal.returns-in-2
 unfolding arrived
-returns-in-2 c = rw (sym c.is_good.ensures ∙ not-false _ c.if-not-is_good.false-raw, eq-eqb _ 2 c.in-2.keys1) c.take.ensures
+returns-in-2 c = rw (sym c.is_good.ensures ∙ not-false _ c.if-not-is_good.false-raw, eq-eqb _ 2 c.in-2.is) c.take.ensures
 
 pub returns-in-3 : goal.returns-in-3
 unfolding arrived
-returns-in-3 c = rw (sym c.is_good.ensures ∙ not-false _ c.if-not-is_good.false-raw, ap (λ (k : ℕ). eqb k 2) c.in-2.keys2, eq-eqb _ 3 c.in-2.keys2) c.late.ensures
+returns-in-3 c = rw (sym c.is_good.ensures ∙ not-false _ c.if-not-is_good.false-raw, ap (λ (k : ℕ). eqb k 2) c.in-3.is, eq-eqb _ 3 c.in-3.is) c.late.ensures
 
 pub returns-in_default : goal.returns-in_default
 unfolding arrived

@@ -11,8 +11,8 @@ use Rattle.ground.proofs.arrivals.take.Goals as goal
 
 pub returns-in_default : goal.returns-in_default
 unfolding taken
-returns-in_default c = c.abort.ensures ∙ bad-case (taken c.args.l) (read_pdu air_c c.args.octets.now) _ (ap (λ (r : AirReading). r.answer) (sym c.decode_air-reading.ensures) ∙ c.enum_told-1.given.1) (aborted c.args.l 2) (λ m. refl)
+returns-in_default c = c.abort.ensures ∙ bad-case (taken c.args.l) (read_pdu air_c c.args.octets.now) _ (ap (λ (r : AirReading). r.answer) (sym c.decode_air-reading.ensures) ∙ c.in_default.is) (aborted c.args.l 2) (λ m. refl)
 
 pub returns : goal.returns
 unfolding taken
-returns c = c.pass.ensures ∙ ap (passed c.args.l) c.air_event.ensures ∙ good-case (taken c.args.l) (read_pdu air_c c.args.octets.now) _ (ap (λ (r : AirReading). r.answer) (sym c.decode_air-reading.ensures) ∙ c.answer-1.given.1) (λ (k : Air). passed c.args.l (air_event k)) (λ a. refl)
+returns c = c.pass.ensures ∙ ap (passed c.args.l) c.air_event.ensures ∙ good-case (taken c.args.l) (read_pdu air_c c.args.octets.now) _ (ap (λ (r : AirReading). r.answer) (sym c.decode_air-reading.ensures) ∙ c.in-Good.is) (λ (k : Air). passed c.args.l (air_event k)) (λ a. refl)

@@ -9,8 +9,8 @@ use Rattle.ground.proofs.endings.reason_of.Goals as goal
 
 pub returns-in_default : goal.returns-in_default
 unfolding reason_of
-returns-in_default c = bad-case reason_of (read_pdu air_c c.args.octets.now) _ (ap (λ (r : AirReading). r.answer) (sym c.decode_air-reading.ensures) ∙ c.enum_told-1.given.1) 6 (λ m. refl)
+returns-in_default c = bad-case reason_of (read_pdu air_c c.args.octets.now) _ (ap (λ (r : AirReading). r.answer) (sym c.decode_air-reading.ensures) ∙ c.in_default.is) 6 (λ m. refl)
 
 pub returns : goal.returns
 unfolding reason_of
-returns c = c.reason_in.ensures ∙ good-case reason_of (read_pdu air_c c.args.octets.now) _ (ap (λ (r : AirReading). r.answer) (sym c.decode_air-reading.ensures) ∙ c.answer-1.given.1) reason_in (λ a. refl)
+returns c = c.reason_in.ensures ∙ good-case reason_of (read_pdu air_c c.args.octets.now) _ (ap (λ (r : AirReading). r.answer) (sym c.decode_air-reading.ensures) ∙ c.in-Good.is) reason_in (λ a. refl)

@@ -7,12 +7,12 @@ pub returns-in_default : goal.returns-in_default
 returns-in_default c = asks_none c.args.g c.in-PeriodicContract.keys2
 
 pub overflow_mul-result : goal.overflow_mul-result
-overflow_mul-result c = let r = asks-within _ (rw c.g-1.given.1 at c.requires) in omega (arith, rw c.interval-in-Minutes-1.given.1 at r.1)
+overflow_mul-result c = let r = asks-within _ (rw c.in-PeriodicContract.is at c.requires) in omega (arith, rw c.in-Minutes.is at r.1)
 
 pub returns-in-Seconds : goal.returns-in-Seconds
 unfolding asks_for
-returns-in-Seconds c = rw (c.g-1.given.1, c.interval-1.given.1)
+returns-in-Seconds c = rw (c.in-PeriodicContract.is, c.in-Seconds.is)
 
 pub returns-in-Minutes : goal.returns-in-Minutes
 unfolding asks_for
-returns-in-Minutes c = rw (c.g-1.given.1, c.interval-in-Minutes-1.given.1)
+returns-in-Minutes c = rw (c.in-PeriodicContract.is, c.in-Minutes.is)

@@ -15,11 +15,11 @@ returns-then-not-is_good c = rw (← c.request_event.ensures, ne_eqb _ 65 c.if-r
 
 pub returns-in-0 : goal.returns-in-0
 unfolding requested
-returns-in-0 c = rw (← c.request_event.ensures, ne_eqb _ 65 c.if-request_event-eq-CANCEL_ALL.false, sym c.is_good.ensures ∙ not-false _ c.if-not-is_good.false-raw, eq-eqb _ 0 c.in-0.keys1) c.ask.ensures
+returns-in-0 c = rw (← c.request_event.ensures, ne_eqb _ 65 c.if-request_event-eq-CANCEL_ALL.false, sym c.is_good.ensures ∙ not-false _ c.if-not-is_good.false-raw, eq-eqb _ 0 c.in-0.is) c.ask.ensures
 
 pub returns-in-2 : goal.returns-in-2
 unfolding requested
-returns-in-2 c = rw (← c.request_event.ensures, ne_eqb _ 65 c.if-request_event-eq-CANCEL_ALL.false, sym c.is_good.ensures ∙ not-false _ c.if-not-is_good.false-raw, ap (λ (k : ℕ). eqb k 0) c.in-0.keys2, eq-eqb _ 2 c.in-0.keys2) c.ask-in-2.ensures
+returns-in-2 c = rw (← c.request_event.ensures, ne_eqb _ 65 c.if-request_event-eq-CANCEL_ALL.false, sym c.is_good.ensures ∙ not-false _ c.if-not-is_good.false-raw, ap (λ (k : ℕ). eqb k 0) c.in-2.is, eq-eqb _ 2 c.in-2.is) c.ask-in-2.ensures
 
 pub returns-in_default : goal.returns-in_default
 unfolding requested

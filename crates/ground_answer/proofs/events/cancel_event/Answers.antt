@@ -4,11 +4,11 @@ use Rattle.ground_answer.proofs.events.cancel_event.Goals as goal
 
 pub returns-in-0 : goal.returns-in-0
 unfolding cancel_event
-returns-in-0 c = rw c.in-0.keys1 refl
+returns-in-0 c = rw c.in-0.is refl
 
 pub returns-in-1 : goal.returns-in-1
 unfolding cancel_event
-returns-in-1 c = rw c.in-0.keys2 refl
+returns-in-1 c = rw c.in-1.is refl
 
 pub returns-in_default : goal.returns-in_default
 unfolding cancel_event

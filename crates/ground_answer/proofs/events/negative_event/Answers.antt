@@ -4,15 +4,15 @@ use Rattle.ground_answer.proofs.events.negative_event.Goals as goal
 
 pub returns-in-0 : goal.returns-in-0
 unfolding negative_event
-returns-in-0 c = rw c.in-0.keys1 refl
+returns-in-0 c = rw c.in-0.is refl
 
 pub returns-in-1 : goal.returns-in-1
 unfolding negative_event
-returns-in-1 c = rw c.in-0.keys2 refl
+returns-in-1 c = rw c.in-1.is refl
 
 pub returns-in-2 : goal.returns-in-2
 unfolding negative_event
-returns-in-2 c = rw c.in-0.keys3 refl
+returns-in-2 c = rw c.in-2.is refl
 
 pub returns-in_default : goal.returns-in_default
 unfolding negative_event

@@ -4,23 +4,23 @@ use Rattle.ground_answer.proofs.events.positive_event.Goals as goal
 
 pub returns-in-0 : goal.returns-in-0
 unfolding positive_event
-returns-in-0 c = rw c.in-0.keys1 refl
+returns-in-0 c = rw c.in-0.is refl
 
 pub returns-in-1 : goal.returns-in-1
 unfolding positive_event
-returns-in-1 c = rw c.in-0.keys2 refl
+returns-in-1 c = rw c.in-1.is refl
 
 pub returns-in-3 : goal.returns-in-3
 unfolding positive_event
-returns-in-3 c = rw c.in-0.keys3 refl
+returns-in-3 c = rw c.in-3.is refl
 
 pub returns-in-4 : goal.returns-in-4
 unfolding positive_event
-returns-in-4 c = rw c.in-0.keys4 refl
+returns-in-4 c = rw c.in-4.is refl
 
 pub returns-in-5 : goal.returns-in-5
 unfolding positive_event
-returns-in-5 c = rw c.in-0.keys5 refl
+returns-in-5 c = rw c.in-5.is refl
 
 pub returns-in_default : goal.returns-in_default
 unfolding positive_event

@@ -8,4 +8,4 @@ returns-in_default c = no_abort c.args.a c.in-Abort.keys2
 
 pub returns : goal.returns
 unfolding reason_in
-returns c = rw c.a-1.given.1 refl
+returns c = rw c.in-Abort.is refl

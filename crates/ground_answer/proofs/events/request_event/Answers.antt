@@ -3,4 +3,4 @@ use Rattle.ground_answer.proofs.events.request_event.Goals as goal
 
 pub returns-in-CancelContract : goal.returns-in-CancelContract
 unfolding request_event
-returns-in-CancelContract c = rw c.g-1.given.1 c.cancel_event.ensures
+returns-in-CancelContract c = rw c.in-CancelContract.is c.cancel_event.ensures

@@ -6,33 +6,33 @@ use Rattle.ground_tables.proofs.decide.dc_move.Goals as goal
 
 pub returns-in-0-kind : goal.returns-in-0-kind
 unfolding dc_move dc_rows
-returns-in-0-kind c = rw (c.in-0-kind.keys1, c.in-0.keys1) c.go.ensures
+returns-in-0-kind c = rw (c.in-0-kind.is, c.in-0.is) c.go.ensures
 
 pub returns-in_default-kind : goal.returns-in_default-kind
 unfolding dc_move dc_rows
-returns-in_default-kind c = rw c.in-0.keys1 (simp (ne_eqb _ 0 c.in-0-kind.rest.1) c.unlisted.ensures)
+returns-in_default-kind c = rw c.in-0.is (simp (ne_eqb _ 0 c.in-0-kind.rest.1) c.unlisted.ensures)
 
 pub returns-in-4 : goal.returns-in-4
 unfolding dc_move dc_rows
-returns-in-4 c = cases c.in-4.keys1
-    (λ k. rw (k, c.in-0.keys2) c.go-in-4.ensures)
-    (λ k. rw (k, c.in-0.keys2) c.go-in-4.ensures)
+returns-in-4 c = cases c.in-4.is
+    (λ k. rw (k, c.in-1.is) c.go-in-4.ensures)
+    (λ k. rw (k, c.in-1.is) c.go-in-4.ensures)
 
 pub returns-in-7 : goal.returns-in-7
 unfolding dc_move dc_rows
-returns-in-7 c = rw (c.in-4.keys2, c.in-0.keys2) c.go-in-7.ensures
+returns-in-7 c = rw (c.in-7.is, c.in-1.is) c.go-in-7.ensures
 
 pub returns-in_default-kind-2 : goal.returns-in_default-kind-2
 unfolding dc_move dc_rows
-returns-in_default-kind-2 c = rw c.in-0.keys2 (simp (ne_eqb _ 7 c.in-4.rest.1, ne_eqb _ 6 (λ k. c.in-4.rest.0.1 (inr k)), ne_eqb _ 4 (λ k. c.in-4.rest.0.1 (inl k))) c.unlisted-in_default-kind-2.ensures)
+returns-in_default-kind-2 c = rw c.in-1.is (simp (ne_eqb _ 7 c.in-4.rest.1, ne_eqb _ 6 (λ k. c.in-4.rest.0.1 (inr k)), ne_eqb _ 4 (λ k. c.in-4.rest.0.1 (inl k))) c.unlisted-in_default-kind-2.ensures)
 
 pub returns-in-5 : goal.returns-in-5
 unfolding dc_move dc_rows
-returns-in-5 c = rw (c.in-5.keys1, c.in-0.keys3) c.go-in-5.ensures
+returns-in-5 c = rw (c.in-5.is, c.in-2.is) c.go-in-5.ensures
 
 pub returns-in_default-kind-3 : goal.returns-in_default-kind-3
 unfolding dc_move dc_rows
-returns-in_default-kind-3 c = rw c.in-0.keys3 (simp (ne_eqb _ 5 c.in-5.rest.1) c.unlisted-in_default-kind-3.ensures)
+returns-in_default-kind-3 c = rw c.in-2.is (simp (ne_eqb _ 5 c.in-5.rest.1) c.unlisted-in_default-kind-3.ensures)
 
 pub returns-in_default : goal.returns-in_default
 unfolding dc_move dc_rows

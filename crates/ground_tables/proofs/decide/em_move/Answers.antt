@@ -6,43 +6,43 @@ use Rattle.ground_tables.proofs.decide.em_move.Goals as goal
 
 pub returns-in-4 : goal.returns-in-4
 unfolding em_move em_rows
-returns-in-4 c = rw (c.in-4.keys1, c.in-0.keys1) c.go.ensures
+returns-in-4 c = rw (c.in-4.is, c.in-0.is) c.go.ensures
 
 pub returns-in_default-kind : goal.returns-in_default-kind
 unfolding em_move em_rows
-returns-in_default-kind c = rw c.in-0.keys1 (simp (ne_eqb _ 4 c.in-4.rest.1) c.unlisted.ensures)
+returns-in_default-kind c = rw c.in-0.is (simp (ne_eqb _ 4 c.in-4.rest.1) c.unlisted.ensures)
 
 pub returns-in-0-kind : goal.returns-in-0-kind
 unfolding em_move em_rows
-returns-in-0-kind c = rw (c.in-0-kind.keys1, c.in-0.keys2) c.go-in-0-kind.ensures
+returns-in-0-kind c = rw (c.in-0-kind.is, c.in-1.is) c.go-in-0-kind.ensures
 
 pub returns-in-4-kind : goal.returns-in-4-kind
 unfolding em_move em_rows
-returns-in-4-kind c = rw (c.in-0-kind.keys2, c.in-0.keys2) c.go-in-4-kind.ensures
+returns-in-4-kind c = rw (c.in-4-kind.is, c.in-1.is) c.go-in-4-kind.ensures
 
 pub returns-in-9 : goal.returns-in-9
 unfolding em_move em_rows
-returns-in-9 c = rw (c.in-0-kind.keys3, c.in-0.keys2) c.go-in-9.ensures
+returns-in-9 c = rw (c.in-9.is, c.in-1.is) c.go-in-9.ensures
 
 pub returns-in_default-kind-2 : goal.returns-in_default-kind-2
 unfolding em_move em_rows
-returns-in_default-kind-2 c = rw c.in-0.keys2 (simp (ne_eqb _ 9 c.in-0-kind.rest.1, ne_eqb _ 4 c.in-0-kind.rest.0.1, ne_eqb _ 0 c.in-0-kind.rest.0.0.1) c.unlisted-in_default-kind-2.ensures)
+returns-in_default-kind-2 c = rw c.in-1.is (simp (ne_eqb _ 9 c.in-0-kind.rest.1, ne_eqb _ 4 c.in-0-kind.rest.0.1, ne_eqb _ 0 c.in-0-kind.rest.0.0.1) c.unlisted-in_default-kind-2.ensures)
 
 pub returns-in-4-kind-2 : goal.returns-in-4-kind-2
 unfolding em_move em_rows
-returns-in-4-kind-2 c = rw (c.in-4-kind-2.keys1, c.in-0.keys3) c.go-in-4-kind-2.ensures
+returns-in-4-kind-2 c = rw (c.in-4-kind-2.is, c.in-2.is) c.go-in-4-kind-2.ensures
 
 pub returns-in-5 : goal.returns-in-5
 unfolding em_move em_rows
-returns-in-5 c = cases c.in-4-kind-2.keys2 (λ k. rw (k, c.in-0.keys3) c.go-in-5.ensures) (λ k. rw (k, c.in-0.keys3) c.go-in-5.ensures)
+returns-in-5 c = cases c.in-5.is (λ k. rw (k, c.in-2.is) c.go-in-5.ensures) (λ k. rw (k, c.in-2.is) c.go-in-5.ensures)
 
 pub returns-in-9-kind : goal.returns-in-9-kind
 unfolding em_move em_rows
-returns-in-9-kind c = rw (c.in-4-kind-2.keys3, c.in-0.keys3) c.go-in-9-kind.ensures
+returns-in-9-kind c = rw (c.in-9-kind.is, c.in-2.is) c.go-in-9-kind.ensures
 
 pub returns-in_default-kind-3 : goal.returns-in_default-kind-3
 unfolding em_move em_rows
-returns-in_default-kind-3 c = rw c.in-0.keys3 (simp (ne_eqb _ 9 c.in-4-kind-2.rest.1, ne_eqb _ 5 (λ k. c.in-4-kind-2.rest.0.1 (inl k)), ne_eqb _ 7 (λ k. c.in-4-kind-2.rest.0.1 (inr k)), ne_eqb _ 4 c.in-4-kind-2.rest.0.0.1) c.unlisted-in_default-kind-3.ensures)
+returns-in_default-kind-3 c = rw c.in-2.is (simp (ne_eqb _ 9 c.in-4-kind-2.rest.1, ne_eqb _ 5 (λ k. c.in-4-kind-2.rest.0.1 (inl k)), ne_eqb _ 7 (λ k. c.in-4-kind-2.rest.0.1 (inr k)), ne_eqb _ 4 c.in-4-kind-2.rest.0.0.1) c.unlisted-in_default-kind-3.ensures)
 
 pub returns-in_default : goal.returns-in_default
 unfolding em_move em_rows

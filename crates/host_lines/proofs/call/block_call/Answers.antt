@@ -4,15 +4,15 @@ use Rattle.host_lines.proofs.call.block_call.Goals as goal
 
 pub returns-in-14 : goal.returns-in-14
 unfolding block_done
-returns-in-14 c = rw (c.in-14.keys1, ← c.number-first.ensures) c.adsc_block_open.ensures
+returns-in-14 c = rw (c.in-14.is, ← c.number-first.ensures) c.adsc_block_open.ensures
 
 pub returns-in-15 : goal.returns-in-15
 unfolding block_done
-returns-in-15 c = rw (c.in-14.keys2, ← c.number-first.ensures, ← c.number.ensures) c.adsc_block_append.ensures
+returns-in-15 c = rw (c.in-15.is, ← c.number-first.ensures, ← c.number.ensures) c.adsc_block_append.ensures
 
 pub returns-in-16 : goal.returns-in-16
 unfolding block_done
-returns-in-16 c = rw c.in-14.keys3 c.adsc_block_finish.ensures
+returns-in-16 c = rw c.in-16.is c.adsc_block_finish.ensures
 
 pub returns-in_default : goal.returns-in_default
 unfolding block_done

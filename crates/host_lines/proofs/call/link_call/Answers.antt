@@ -5,15 +5,15 @@ use Rattle.host_lines.proofs.call.link_call.Goals as goal
 
 pub returns-in-3 : goal.returns-in-3
 unfolding link_done
-returns-in-3 c = rw c.in-3.keys1 (opens-so _ c.adsc_open.ensures)
+returns-in-3 c = rw c.in-3.is (opens-so _ c.adsc_open.ensures)
 
 pub returns-in-4 : goal.returns-in-4
 unfolding link_done
-returns-in-4 c = rw c.in-3.keys2 c.adsc_request.ensures
+returns-in-4 c = rw c.in-4.is c.adsc_request.ensures
 
 pub returns-in-5 : goal.returns-in-5
 unfolding link_done
-returns-in-5 c = rw (c.in-3.keys3, ← c.number.ensures) c.adsc_elapse.ensures
+returns-in-5 c = rw (c.in-5.is, ← c.number.ensures) c.adsc_elapse.ensures
 
 pub returns-in_default : goal.returns-in_default
 unfolding link_done

@@ -4,11 +4,11 @@ use Rattle.host_lines.proofs.call.octets_call.Goals as goal
 
 pub returns-in-6 : goal.returns-in-6
 unfolding octets_call
-returns-in-6 c = rw c.in-6.keys1 c.adsc_start_confirm.ensures
+returns-in-6 c = rw c.in-6.is c.adsc_start_confirm.ensures
 
 pub returns-in-7 : goal.returns-in-7
 unfolding octets_call
-returns-in-7 c = rw c.in-6.keys2 c.adsc_data.ensures
+returns-in-7 c = rw c.in-7.is c.adsc_data.ensures
 
 pub returns-in_default : goal.returns-in_default
 unfolding octets_call

@@ -4,19 +4,19 @@ use Rattle.host_lines.proofs.call.plain_call.Goals as goal
 
 pub returns-in-9 : goal.returns-in-9
 unfolding plain_call
-returns-in-9 c = rw c.in-9.keys1 c.adsc_user_abort.ensures
+returns-in-9 c = rw c.in-9.is c.adsc_user_abort.ensures
 
 pub returns-in-10 : goal.returns-in-10
 unfolding plain_call
-returns-in-10 c = rw c.in-9.keys2 c.adsc_start_rejected.ensures
+returns-in-10 c = rw c.in-10.is c.adsc_start_rejected.ensures
 
 pub returns-in-11 : goal.returns-in-11
 unfolding plain_call
-returns-in-11 c = rw c.in-9.keys3 c.adsc_end_confirm.ensures
+returns-in-11 c = rw c.in-11.is c.adsc_end_confirm.ensures
 
 pub returns-in-12 : goal.returns-in-12
 unfolding plain_call
-returns-in-12 c = rw c.in-9.keys4 c.adsc_peer_abort.ensures
+returns-in-12 c = rw c.in-12.is c.adsc_peer_abort.ensures
 
 pub returns-in_default : goal.returns-in_default
 unfolding plain_call

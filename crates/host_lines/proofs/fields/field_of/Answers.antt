@@ -3,12 +3,12 @@ use Rattle.host_lines.proofs.fields.field_of.Goals as goal
 
 pub returns-in-Octets : goal.returns-in-Octets
 unfolding held_by
-returns-in-Octets c = rw c.h-1.given.1
+returns-in-Octets c = rw c.in-Octets.is
 
 pub returns-in-Long : goal.returns-in-Long
 unfolding held_by
-returns-in-Long c = rw c.enum_told-1.given.1
+returns-in-Long c = rw c.in-Long.is
 
 pub returns-in-Garbled : goal.returns-in-Garbled
 unfolding held_by
-returns-in-Garbled c = rw c.enum_told-in-Garbled-1.given.1
+returns-in-Garbled c = rw c.in-Garbled.is

@@ -23,5 +23,5 @@ unfolding held_in
 returns c = let a = c.args in
     let d = a.octets.now in
     let h = c.hold_record-h in
-    sym (ap (λ (x : Held). readable (held_in x d)) c.enum_told-1.given.1)
+    sym (ap (λ (x : Held). readable (held_in x d)) c.in-Unread.is)
     ∙ held-fields a.kind a.seconds d c.shape_of-shape.result h.result c.if-kind-eq0.false c.shape_of-shape.ensures h.ensures

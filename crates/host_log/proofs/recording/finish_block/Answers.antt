@@ -5,4 +5,4 @@ pub returns-in_default : goal.returns-in_default
 returns-in_default c = is-finished c.args.block.now _ _ (rw c.tape_in-t.ensures at c.finish-f.ensures) (was-fit _ c.in-Unfit.keys2)
 
 pub returns : goal.returns
-returns c = not-finished c.args.block.now _ (rw (c.tape_in-t.ensures, c.enum_told-1.given.1) at c.finish-f.ensures)
+returns c = not-finished c.args.block.now _ (rw (c.tape_in-t.ensures, c.in-Unfit.is) at c.finish-f.ensures)

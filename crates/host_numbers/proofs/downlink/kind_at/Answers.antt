@@ -7,39 +7,39 @@ use Rattle.host_numbers.proofs.downlink.kind_at.Goals as goal
 
 pub returns-in-0 : goal.returns-in-0
 unfolding kind_at
-returns-in-0 c = rw (sym c.number-kind.ensures ∙ c.in-0.keys1)
+returns-in-0 c = rw (sym c.number-kind.ensures ∙ c.in-0.is)
 
 pub returns-in-1 : goal.returns-in-1
 unfolding kind_at
-returns-in-1 c = rw (sym c.number-kind.ensures ∙ c.in-0.keys2, c.acked_at.ensures)
+returns-in-1 c = rw (sym c.number-kind.ensures ∙ c.in-1.is, c.acked_at.ensures)
 
 pub returns-in-2 : goal.returns-in-2
 unfolding kind_at
-returns-in-2 c = rw (sym c.number-kind.ensures ∙ c.in-0.keys3, c.urgent_at.ensures)
+returns-in-2 c = rw (sym c.number-kind.ensures ∙ c.in-2.is, c.urgent_at.ensures)
 
 pub returns-in-3 : goal.returns-in-3
 unfolding kind_at
-returns-in-3 c = rw (sym c.number-kind.ensures ∙ c.in-0.keys4, c.event_at.ensures)
+returns-in-3 c = rw (sym c.number-kind.ensures ∙ c.in-3.is, c.event_at.ensures)
 
 pub returns-in-4 : goal.returns-in-4
 unfolding kind_at
-returns-in-4 c = rw (sym c.number-kind.ensures ∙ c.in-0.keys5, c.negative_at.ensures)
+returns-in-4 c = rw (sym c.number-kind.ensures ∙ c.in-4.is, c.negative_at.ensures)
 
 pub returns-in-5 : goal.returns-in-5
 unfolding kind_at
-returns-in-5 c = rw (sym c.number-kind.ensures ∙ c.in-0.keys6, c.number.ensures)
+returns-in-5 c = rw (sym c.number-kind.ensures ∙ c.in-5.is, c.number.ensures)
 
 pub returns-in-6 : goal.returns-in-6
 unfolding kind_at
-returns-in-6 c = rw (sym c.number-kind.ensures ∙ c.in-0.keys7, c.acked_at-in-6.ensures)
+returns-in-6 c = rw (sym c.number-kind.ensures ∙ c.in-6.is, c.acked_at-in-6.ensures)
 
 pub returns-in-7 : goal.returns-in-7
 unfolding kind_at
-returns-in-7 c = rw (sym c.number-kind.ensures ∙ c.in-0.keys8, c.number-in-7.ensures)
+returns-in-7 c = rw (sym c.number-kind.ensures ∙ c.in-7.is, c.number-in-7.ensures)
 
 pub returns-in-8 : goal.returns-in-8
 unfolding kind_at
-returns-in-8 c = rw (sym c.number-kind.ensures ∙ c.in-0.keys9, c.number-in-8.ensures)
+returns-in-8 c = rw (sym c.number-kind.ensures ∙ c.in-8.is, c.number-in-8.ensures)
 
 pub returns-in_default : goal.returns-in_default
 unfolding kind_at

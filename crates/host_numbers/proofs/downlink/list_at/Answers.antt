@@ -5,11 +5,11 @@ use Rattle.host_numbers.proofs.downlink.list_at.Goals as goal
 
 pub returns-in-4 : goal.returns-in-4
 unfolding list_at
-returns-in-4 c = rw (sym c.number-kind.ensures ∙ c.in-4.keys1) c.listed_at.ensures
+returns-in-4 c = rw (sym c.number-kind.ensures ∙ c.in-4.is) c.listed_at.ensures
 
 pub returns-in-5 : goal.returns-in-5
 unfolding list_at
-returns-in-5 c = rw (sym c.number-kind.ensures ∙ c.in-4.keys2) c.listed_at-in-5.ensures
+returns-in-5 c = rw (sym c.number-kind.ensures ∙ c.in-5.is) c.listed_at-in-5.ensures
 
 pub returns-in_default : goal.returns-in_default
 unfolding list_at

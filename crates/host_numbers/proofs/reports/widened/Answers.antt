@@ -4,8 +4,6 @@ use lib.ListN.{length}
 use Rattle.std.proofs.Common.{rules}
 use Rattle.host_numbers.proofs.reports.widened.Goals as goal
 
-size : (c : tie.Start) → length c.args.t1 ≡ 25
-size c = search rules
-
 pub returns : goal.returns
-returns c = c.copy_numbers.ensures ∙ wide c.args.t1 (size c)
+returns c = let size : length c.args.a ≡ 25 = search rules in
+    c.copy_numbers.ensures ∙ wide c.args.a (size)

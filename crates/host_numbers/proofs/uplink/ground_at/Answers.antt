@@ -7,35 +7,35 @@ use Rattle.host_numbers.proofs.uplink.ground_at.Goals as goal
 
 pub returns-in-0 : goal.returns-in-0
 unfolding ground_at
-returns-in-0 c = rw (sym c.number-kind.ensures ∙ c.in-0.keys1)
+returns-in-0 c = rw (sym c.number-kind.ensures ∙ c.in-0.is)
 
 pub returns-in-1 : goal.returns-in-1
 unfolding ground_at
-returns-in-1 c = rw (sym c.number-kind.ensures ∙ c.in-0.keys2, c.number-n.ensures)
+returns-in-1 c = rw (sym c.number-kind.ensures ∙ c.in-1.is, c.number-n.ensures)
 
 pub returns-in-2 : goal.returns-in-2
 unfolding ground_at
-returns-in-2 c = rw (sym c.number-kind.ensures ∙ c.in-0.keys3)
+returns-in-2 c = rw (sym c.number-kind.ensures ∙ c.in-2.is)
 
 pub returns-in-3 : goal.returns-in-3
 unfolding ground_at
-returns-in-3 c = rw (sym c.number-kind.ensures ∙ c.in-0.keys4, c.number-n.ensures)
+returns-in-3 c = rw (sym c.number-kind.ensures ∙ c.in-3.is, c.number-n.ensures)
 
 pub returns-in-4 : goal.returns-in-4
 unfolding ground_at
-returns-in-4 c = rw (sym c.number-kind.ensures ∙ c.in-0.keys5, c.changes_at.ensures)
+returns-in-4 c = rw (sym c.number-kind.ensures ∙ c.in-4.is, c.changes_at.ensures)
 
 pub returns-in-5 : goal.returns-in-5
 unfolding ground_at
-returns-in-5 c = rw (sym c.number-kind.ensures ∙ c.in-0.keys6, c.interval_of.ensures, c.number.ensures, c.number-in-5.ensures)
+returns-in-5 c = rw (sym c.number-kind.ensures ∙ c.in-5.is, c.interval_of.ensures, c.number.ensures, c.number-in-5.ensures)
 
 pub returns-in-6 : goal.returns-in-6
 unfolding ground_at
-returns-in-6 c = rw (sym c.number-kind.ensures ∙ c.in-0.keys7, c.periodic_at.ensures)
+returns-in-6 c = rw (sym c.number-kind.ensures ∙ c.in-6.is, c.periodic_at.ensures)
 
 pub returns-in-7 : goal.returns-in-7
 unfolding ground_at
-returns-in-7 c = rw (sym c.number-kind.ensures ∙ c.in-0.keys8, c.number-n.ensures)
+returns-in-7 c = rw (sym c.number-kind.ensures ∙ c.in-7.is, c.number-n.ensures)
 
 pub returns-in_default : goal.returns-in_default
 unfolding ground_at

@@ -5,9 +5,7 @@ use Rattle.host_record.proofs.Puts.{rest-run}
 use Rattle.std.proofs.Common.{rules}
 use Rattle.host_record.proofs.record.put_rest.Goals as goal
 
-wide : (c : tie.Start) → length c.args.l.left ≡ timers
-wide c = search rules
-
 pub returns : goal.returns
-returns c = c.put_intervals.ensures
-    ∙ rw (c.put_states.ensures, c.put_words.ensures) (rest-run c.args.l (wide c) c.args.out.now)
+returns c = let wide : length c.args.l.left ≡ timers = search rules in
+    c.put_intervals.ensures
+    ∙ rw (c.put_states.ensures, c.put_words.ensures) (rest-run c.args.l (wide) c.args.out.now)

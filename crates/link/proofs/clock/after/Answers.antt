@@ -9,16 +9,15 @@ use Rattle.link.specs.Names.{timers}
 use Rattle.std.proofs.Common.{rules}
 use Rattle.link.proofs.clock.after.Goals as goal
 
-long : (c : tie.Start invariant-loop decreases-loop) → length c.args.left ≡ timers
-long c = search rules
-
 pub loop-t-init : goal.loop-t-init
 loop-t-init c = (search rules, refl)
 
 pub loop-t-preserved : goal.loop-t-preserved
-loop-t-preserved c = (omega arith, rw (c.less.ensures, c.loop-t.invariant.1, add-one) (mid_step (λ x. x - c.args.n) c.args.left c.loop-t.t (omega (arith, long c))))
+loop-t-preserved c = let long : length c.args.left ≡ timers = search rules in
+    (omega arith, rw (c.less.ensures, c.loop-t.invariant.1, add-one) (mid_step (λ x. x - c.args.n) c.args.left c.loop-t.t (omega (arith, long))))
 
 pub returns : goal.returns
 unfolding later
-returns c = let t-end : c.loop-t.t ≡ timers = omega arith in
-    c.loop-t.invariant.1 ∙ rw t-end (mid-all (λ x. x - c.args.n) c.args.left timers (long c))
+returns c = let long : length c.args.left ≡ timers = search rules in
+    let t-end : c.loop-t.t ≡ timers = omega arith in
+    c.loop-t.invariant.1 ∙ rw t-end (mid-all (λ x. x - c.args.n) c.args.left timers (long))

@@ -7,8 +7,6 @@ use Rattle.link.specs.Names.{timers}
 use Rattle.std.proofs.Common.{rules}
 use Rattle.link.proofs.executor.put_timer.Goals as goal
 
-size : (c : tie.Start) → length c.args.a ≡ timers
-size c = search rules
-
 pub returns-else-i-lt-TIMERS : goal.returns-else-i-lt-TIMERS
-returns-else-i-lt-TIMERS c = sym (set_out c.args.a c.args.t c.args.v (omega (arith, size c)))
+returns-else-i-lt-TIMERS c = let size : length c.args.a ≡ timers = search rules in
+    sym (set_out c.args.a c.args.t c.args.v (omega (arith, size)))

@@ -13,11 +13,11 @@ loop-t-init c = (search rules, refl)
 
 pub returns-then-not-timer_ok : goal.returns-then-not-timer_ok
 unfolding timer_good
-returns-then-not-timer_ok c = sym (below_fails (timer_good c.args.w c.args.at c.args.t3 c.args.t4) timers c.loop-t.t (search rules) (rw (← c.watched.ensures, ← c.timer_ok.ensures) (not-true _ c.if-not-timer_ok.true-raw)))
+returns-then-not-timer_ok c = sym (below_fails (timer_good c.args.w c.args.at c.args.left c.args.most) timers c.loop-t.t (search rules) (rw (← c.watched.ensures, ← c.timer_ok.ensures) (not-true _ c.if-not-timer_ok.true-raw)))
 
 pub loop-t-preserved : goal.loop-t-preserved
 unfolding timer_good
-loop-t-preserved c = (omega arith, below_more (timer_good c.args.w c.args.at c.args.t3 c.args.t4) c.loop-t.t c.loop-t.invariant.1 (rw (← c.watched.ensures, ← c.timer_ok.ensures) (not-false _ c.if-not-timer_ok.false-raw)))
+loop-t-preserved c = (omega arith, below_more (timer_good c.args.w c.args.at c.args.left c.args.most) c.loop-t.t c.loop-t.invariant.1 (rw (← c.watched.ensures, ← c.timer_ok.ensures) (not-false _ c.if-not-timer_ok.false-raw)))
 
 pub returns : goal.returns
-returns c = at-end (timer_good c.args.w c.args.at c.args.t3 c.args.t4) c.loop-t.t timers (omega arith) c.loop-t.invariant.1
+returns c = at-end (timer_good c.args.w c.args.at c.args.left c.args.most) c.loop-t.t timers (omega arith) c.loop-t.invariant.1

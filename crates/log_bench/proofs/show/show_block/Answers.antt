@@ -66,11 +66,11 @@ loop-at-preserved c = let q = c.loop-at in
 
 pub returns-in-End : goal.returns-in-End
 returns-in-End c = let q = c.loop-at in
-    q.invariant.2 _ _ (shows-end c.args.block.now q.at c.requires.0 c.requires.1 _ _ (sym c.record_at-f.ensures ∙ c.enum_told-1.given.1))
+    q.invariant.2 _ _ (shows-end c.args.block.now q.at c.requires.0 c.requires.1 _ _ (sym c.record_at-f.ensures ∙ c.in-End.is))
 
 pub returns-in-Unreadable : goal.returns-in-Unreadable
 returns-in-Unreadable c = let q = c.loop-at in
-    q.invariant.2 _ _ (shows-unreadable c.args.block.now q.at c.requires.0 c.requires.1 _ _ _ _ (sym c.record_at-f.ensures ∙ c.enum_told-in-Unreadable-1.given.1))
+    q.invariant.2 _ _ (shows-unreadable c.args.block.now q.at c.requires.0 c.requires.1 _ _ _ _ (sym c.record_at-f.ensures ∙ c.in-Unreadable.is))
 
 pub returns : goal.returns
 returns c = absurd (omega arith)

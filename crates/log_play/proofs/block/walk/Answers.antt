@@ -53,11 +53,11 @@ loop-at-preserved c = let q = c.loop-at in
 
 pub returns-in-End : goal.returns-in-End
 returns-in-End c = let q = c.loop-at in
-    sym (turn_end c.args.block.now q.at c.requires.0 c.requires.1 c.args.b q.setup (sym c.record_at-f.ensures ∙ c.enum_told-1.given.1)) ∙ q.invariant.1
+    sym (turn_end c.args.block.now q.at c.requires.0 c.requires.1 c.args.b q.setup (sym c.record_at-f.ensures ∙ c.in-End.is)) ∙ q.invariant.1
 
 pub returns-in-Unreadable : goal.returns-in-Unreadable
 returns-in-Unreadable c = let q = c.loop-at in
-    c.unplayed-in-Unreadable.ensures ∙ sym (turn-unreadable c.args.block.now q.at c.requires.0 c.requires.1 c.args.b q.setup (sym c.record_at-f.ensures ∙ c.enum_told-in-Unreadable-1.given.1)) ∙ q.invariant.1
+    c.unplayed-in-Unreadable.ensures ∙ sym (turn-unreadable c.args.block.now q.at c.requires.0 c.requires.1 c.args.b q.setup (sym c.record_at-f.ensures ∙ c.in-Unreadable.is)) ∙ q.invariant.1
 
 pub returns : goal.returns
 returns c = absurd (omega arith)

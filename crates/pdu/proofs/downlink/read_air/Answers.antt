@@ -7,35 +7,35 @@ use Rattle.pdu.proofs.downlink.read_air.Goals as goal
 
 pub returns-in-0 : goal.returns-in-0
 unfolding air_c air_alt
-returns-in-0 c = rw c.bare.ensures (after-ext c.extension.ensures (in-choice _ _ _ 0 c.in-0.keys1 c.index-i.ensures (in-alt _ _ _ _ _ _ nothing)))
+returns-in-0 c = rw c.bare.ensures (after-ext c.extension.ensures (in-choice _ _ _ 0 c.in-0.is c.index-i.ensures (in-alt _ _ _ _ _ _ nothing)))
 
 pub returns-in-1 : goal.returns-in-1
 unfolding air_c
-returns-in-1 c = after-ext c.extension.ensures (in-choice _ _ _ 1 c.in-0.keys2 c.index-i.ensures c.read_demand.ensures)
+returns-in-1 c = after-ext c.extension.ensures (in-choice _ _ _ 1 c.in-1.is c.index-i.ensures c.read_demand.ensures)
 
 pub returns-in-2 : goal.returns-in-2
 unfolding air_c
-returns-in-2 c = after-ext c.extension.ensures (in-choice _ _ _ 2 c.in-0.keys3 c.index-i.ensures c.read_emergency.ensures)
+returns-in-2 c = after-ext c.extension.ensures (in-choice _ _ _ 2 c.in-2.is c.index-i.ensures c.read_emergency.ensures)
 
 pub returns-in-3 : goal.returns-in-3
 unfolding air_c
-returns-in-3 c = after-ext c.extension.ensures (in-choice _ _ _ 3 c.in-0.keys4 c.index-i.ensures c.read_event.ensures)
+returns-in-3 c = after-ext c.extension.ensures (in-choice _ _ _ 3 c.in-3.is c.index-i.ensures c.read_event.ensures)
 
 pub returns-in-4 : goal.returns-in-4
 unfolding air_c
-returns-in-4 c = after-ext c.extension.ensures (in-choice _ _ _ 4 c.in-0.keys5 c.index-i.ensures c.read_refused.ensures)
+returns-in-4 c = after-ext c.extension.ensures (in-choice _ _ _ 4 c.in-4.is c.index-i.ensures c.read_refused.ensures)
 
 pub returns-in-5 : goal.returns-in-5
 unfolding air_c
-returns-in-5 c = after-ext c.extension.ensures (in-choice _ _ _ 5 c.in-0.keys6 c.index-i.ensures c.read_unmet.ensures)
+returns-in-5 c = after-ext c.extension.ensures (in-choice _ _ _ 5 c.in-5.is c.index-i.ensures c.read_unmet.ensures)
 
 pub returns-in-6 : goal.returns-in-6
 unfolding air_c
-returns-in-6 c = after-ext c.extension.ensures (in-choice _ _ _ 6 c.in-0.keys7 c.index-i.ensures c.read_periodic.ensures)
+returns-in-6 c = after-ext c.extension.ensures (in-choice _ _ _ 6 c.in-6.is c.index-i.ensures c.read_periodic.ensures)
 
 pub returns-in-7 : goal.returns-in-7
 unfolding air_c
-returns-in-7 c = after-ext c.extension.ensures (in-choice _ _ _ 7 c.in-0.keys8 c.index-i.ensures c.read_positive.ensures)
+returns-in-7 c = after-ext c.extension.ensures (in-choice _ _ _ 7 c.in-7.is c.index-i.ensures c.read_positive.ensures)
 
 pub returns-in_default : goal.returns-in_default
 unfolding air_c

@@ -5,36 +5,36 @@ use Rattle.pdu.proofs.downlink.write_fields.Goals as goal
 
 pub returns-in-CancelEmergency : goal.returns-in-CancelEmergency
 unfolding air_alt
-returns-in-CancelEmergency c = rw c.enum_told-1.given.1 (inks-alt _ _ _ _ _ _ refl (inks-none _ _ _ _))
+returns-in-CancelEmergency c = rw c.in-CancelEmergency.is (inks-alt _ _ _ _ _ _ refl (inks-none _ _ _ _))
 
 pub returns-in-Demand : goal.returns-in-Demand
 unfolding air_alt
-returns-in-Demand c = rw c.kind-1.given.1 (inks-alt _ _ _ _ _ _ refl (inks-ext c.extension.ensures c.write_acked.ensures))
+returns-in-Demand c = rw c.in-Demand.is (inks-alt _ _ _ _ _ _ refl (inks-ext c.extension.ensures c.write_acked.ensures))
 
 pub returns-in-Emergency : goal.returns-in-Emergency
 unfolding air_alt
-returns-in-Emergency c = rw c.kind-in-Emergency-1.given.1 (inks-alt _ _ _ _ _ _ refl (inks-ext c.extension-in-Emergency.ensures c.write_acked_emergency.ensures))
+returns-in-Emergency c = rw c.in-Emergency.is (inks-alt _ _ _ _ _ _ refl (inks-ext c.extension-in-Emergency.ensures c.write_acked_emergency.ensures))
 
 pub returns-in-Event : goal.returns-in-Event
 unfolding air_alt
-returns-in-Event c = rw c.kind-in-Event-1.given.1 (inks-alt _ _ _ _ _ _ refl (inks-ext c.extension-in-Event.ensures c.write_event_report.ensures))
+returns-in-Event c = rw c.in-Event.is (inks-alt _ _ _ _ _ _ refl (inks-ext c.extension-in-Event.ensures c.write_event_report.ensures))
 
 pub returns-in-Negative : goal.returns-in-Negative
 unfolding air_alt
-returns-in-Negative c = rw c.kind-in-Negative-1.given.1 (inks-alt _ _ _ _ _ _ refl c.write_negative.ensures)
+returns-in-Negative c = rw c.in-Negative.is (inks-alt _ _ _ _ _ _ refl c.write_negative.ensures)
 
 pub returns-in-Noncompliance : goal.returns-in-Noncompliance
 unfolding air_alt
-returns-in-Noncompliance c = rw c.kind-in-Noncompliance-1.given.1 (inks-alt _ _ _ _ _ _ refl (inks-ext c.extension-in-Noncompliance.ensures c.write_noncompliance.ensures))
+returns-in-Noncompliance c = rw c.in-Noncompliance.is (inks-alt _ _ _ _ _ _ refl (inks-ext c.extension-in-Noncompliance.ensures c.write_noncompliance.ensures))
 
 pub returns-in-Periodic : goal.returns-in-Periodic
 unfolding air_alt
-returns-in-Periodic c = rw c.kind-in-Periodic-1.given.1 (inks-alt _ _ _ _ _ _ refl (inks-ext c.extension-in-Periodic.ensures c.write_acked-in-Periodic.ensures))
+returns-in-Periodic c = rw c.in-Periodic.is (inks-alt _ _ _ _ _ _ refl (inks-ext c.extension-in-Periodic.ensures c.write_acked-in-Periodic.ensures))
 
 pub returns-in-Positive : goal.returns-in-Positive
 unfolding air_alt
-returns-in-Positive c = rw c.kind-in-Positive-1.given.1 (inks-alt _ _ _ _ _ _ refl (inks-ext c.extension-in-Positive.ensures c.num.ensures))
+returns-in-Positive c = rw c.in-Positive.is (inks-alt _ _ _ _ _ _ refl (inks-ext c.extension-in-Positive.ensures c.num.ensures))
 
 pub returns-in-Abort : goal.returns-in-Abort
 unfolding air_alt
-returns-in-Abort c = rw c.kind-in-Abort-1.given.1 (inks-alt _ _ _ _ _ _ refl (inks-ext c.extension-in-Abort.ensures c.num-in-Abort.ensures))
+returns-in-Abort c = rw c.in-Abort.is (inks-alt _ _ _ _ _ _ refl (inks-ext c.extension-in-Abort.ensures c.num-in-Abort.ensures))

@@ -7,31 +7,31 @@ use Rattle.pdu.proofs.uplink.read_ground.Goals as goal
 
 pub returns-in-0 : goal.returns-in-0
 unfolding ground_c ground_alt
-returns-in-0 c = after-ext c.extension.ensures (in-choice _ _ _ 0 c.in-0.keys1 c.index-i.ensures (in-alt _ _ _ _ _ _ nothing))
+returns-in-0 c = after-ext c.extension.ensures (in-choice _ _ _ 0 c.in-0.is c.index-i.ensures (in-alt _ _ _ _ _ _ nothing))
 
 pub returns-in-1 : goal.returns-in-1
 unfolding ground_c
-returns-in-1 c = after-ext c.extension.ensures (in-choice _ _ _ 1 c.in-0.keys2 c.index-i.ensures c.read_cancel.ensures)
+returns-in-1 c = after-ext c.extension.ensures (in-choice _ _ _ 1 c.in-1.is c.index-i.ensures c.read_cancel.ensures)
 
 pub returns-in-2 : goal.returns-in-2
 unfolding ground_c ground_alt
-returns-in-2 c = after-ext c.extension.ensures (in-choice _ _ _ 2 c.in-0.keys3 c.index-i.ensures (in-alt _ _ _ _ _ _ nothing))
+returns-in-2 c = after-ext c.extension.ensures (in-choice _ _ _ 2 c.in-2.is c.index-i.ensures (in-alt _ _ _ _ _ _ nothing))
 
 pub returns-in-3 : goal.returns-in-3
 unfolding ground_c
-returns-in-3 c = after-ext c.extension.ensures (in-choice _ _ _ 3 c.in-0.keys4 c.index-i.ensures c.read_demand.ensures)
+returns-in-3 c = after-ext c.extension.ensures (in-choice _ _ _ 3 c.in-3.is c.index-i.ensures c.read_demand.ensures)
 
 pub returns-in-4 : goal.returns-in-4
 unfolding ground_c
-returns-in-4 c = after-ext c.extension.ensures (in-choice _ _ _ 4 c.in-0.keys5 c.index-i.ensures c.read_event.ensures)
+returns-in-4 c = after-ext c.extension.ensures (in-choice _ _ _ 4 c.in-4.is c.index-i.ensures c.read_event.ensures)
 
 pub returns-in-5 : goal.returns-in-5
 unfolding ground_c
-returns-in-5 c = after-ext c.extension.ensures (in-choice _ _ _ 5 c.in-0.keys6 c.index-i.ensures c.read_modify.ensures)
+returns-in-5 c = after-ext c.extension.ensures (in-choice _ _ _ 5 c.in-5.is c.index-i.ensures c.read_modify.ensures)
 
 pub returns-in-6 : goal.returns-in-6
 unfolding ground_c
-returns-in-6 c = after-ext c.extension.ensures (in-choice _ _ _ 6 c.in-0.keys7 c.index-i.ensures c.read_period.ensures)
+returns-in-6 c = after-ext c.extension.ensures (in-choice _ _ _ 6 c.in-6.is c.index-i.ensures c.read_period.ensures)
 
 pub returns-in_default : goal.returns-in_default
 unfolding ground_c

@@ -5,8 +5,8 @@ use Rattle.pdu_parts.proofs.interval.write_interval.Goals as goal
 
 pub returns-in-Seconds : goal.returns-in-Seconds
 unfolding interval_c
-returns-in-Seconds c = rw c.i-1.given.1 (inks-choice _ _ _ c.index-p.ensures (inks-alt _ _ _ _ _ _ refl c.num.ensures))
+returns-in-Seconds c = rw c.in-Seconds.is (inks-choice _ _ _ c.index-p.ensures (inks-alt _ _ _ _ _ _ refl c.num.ensures))
 
 pub returns-in-Minutes : goal.returns-in-Minutes
 unfolding interval_c
-returns-in-Minutes c = rw c.i-in-Minutes-1.given.1 (inks-choice _ _ _ c.index-p-in-Minutes.ensures (inks-alt _ _ _ _ _ _ refl c.num-in-Minutes.ensures))
+returns-in-Minutes c = rw c.in-Minutes.is (inks-choice _ _ _ c.index-p-in-Minutes.ensures (inks-alt _ _ _ _ _ _ refl c.num-in-Minutes.ensures))

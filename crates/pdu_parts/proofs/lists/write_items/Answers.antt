@@ -7,9 +7,6 @@ use Rattle.per.proofs.Inks.{inks-nil}
 use Rattle.std.proofs.Common.{rules}
 use Rattle.pdu_parts.proofs.lists.write_items.Goals as goal
 
-size : (c : tie.Start invariant-loop decreases-loop) → length c.args.t3 ≡ 128
-size c = search rules
-
 pub loop-i-init : goal.loop-i-init
 loop-i-init c = (omega arith, inks-nil _)
 
@@ -26,7 +23,8 @@ pub loop-i-smaller : goal.loop-i-smaller
 loop-i-smaller c = omega arith
 
 pub loop-i-preserved : goal.loop-i-preserved
-loop-i-preserved c = (omega arith, items_more _ _ _ (omega (arith, size c)) c.loop-i.invariant.1 c.write_entry-to.ensures)
+loop-i-preserved c = let size : length c.args.items ≡ 128 = search rules in
+    (omega arith, items_more _ _ _ (omega (arith, size)) c.loop-i.invariant.1 c.write_entry-to.ensures)
 
 pub returns : goal.returns
 returns c = let e : c.loop-i.i ≡ c.args.n = omega arith in rw (← e) c.loop-i.invariant.1

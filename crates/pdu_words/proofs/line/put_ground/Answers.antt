@@ -3,8 +3,8 @@ use Rattle.pdu_words.proofs.line.put_ground.Goals as goal
 
 pub returns-in-Code : goal.returns-in-Code
 unfolding ground_text
-returns-in-Code c = rw c.enum_told-1.given.1 c.put_ground.ensures
+returns-in-Code c = rw c.in-Code.is c.put_ground.ensures
 
 pub returns-in-Tell : goal.returns-in-Tell
 unfolding ground_text
-returns-in-Tell c = rw c.enum_told-in-Tell-1.given.1 c.put_ground-in-Tell.ensures
+returns-in-Tell c = rw c.in-Tell.is c.put_ground-in-Tell.ensures

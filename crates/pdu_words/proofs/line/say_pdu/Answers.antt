@@ -4,11 +4,11 @@ use Rattle.pdu_words.proofs.line.say_pdu.Goals as goal
 
 pub returns-in-1 : goal.returns-in-1
 unfolding pdu_text family_of
-returns-in-1 c = rw (← c.find.ensures, c.in-1.keys1) c.say_air.ensures
+returns-in-1 c = rw (← c.find.ensures, c.in-1.is) c.say_air.ensures
 
 pub returns-in-2 : goal.returns-in-2
 unfolding pdu_text family_of
-returns-in-2 c = rw (← c.find.ensures, c.in-1.keys2) c.say_ground.ensures
+returns-in-2 c = rw (← c.find.ensures, c.in-2.is) c.say_ground.ensures
 
 pub returns-in_default : goal.returns-in_default
 unfolding pdu_text family_of

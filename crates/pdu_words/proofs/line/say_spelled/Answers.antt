@@ -7,14 +7,14 @@ use Rattle.pdu_words.proofs.line.say_spelled.Goals as goal
 pub returns-in-Octets : goal.returns-in-Octets
 unfolding heard_text
 returns-in-Octets c = let s = c.args in
-    rw (← spelled-heard s.task s.word.now c.parse_hex-h.ensures c.requires refl, c.h-1.given.1) (rw (c.shown-m.ensures.is, take_min _ _) at c.say_pdu.ensures)
+    rw (← spelled-heard s.task s.word.now c.parse_hex-h.ensures c.requires refl, c.in-Octets.is) (rw (c.shown-m.ensures.is, take_min _ _) at c.say_pdu.ensures)
 
 pub returns-in-Long : goal.returns-in-Long
 unfolding heard_text
 returns-in-Long c = let s = c.args in
-    rw (← spelled-heard s.task s.word.now c.parse_hex-h.ensures c.requires refl, c.enum_told-1.given.1) c.say_refused.ensures
+    rw (← spelled-heard s.task s.word.now c.parse_hex-h.ensures c.requires refl, c.in-Long.is) c.say_refused.ensures
 
 pub returns-in-Garbled : goal.returns-in-Garbled
 unfolding heard_text
 returns-in-Garbled c = let s = c.args in
-    rw (← spelled-heard s.task s.word.now c.parse_hex-h.ensures c.requires refl, c.enum_told-in-Garbled-1.given.1) c.say_refused-in-Garbled.ensures
+    rw (← spelled-heard s.task s.word.now c.parse_hex-h.ensures c.requires refl, c.in-Garbled.is) c.say_refused-in-Garbled.ensures

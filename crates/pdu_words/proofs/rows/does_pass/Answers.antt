@@ -5,19 +5,19 @@ use Rattle.pdu_words.proofs.rows.does_pass.Goals as goal
 
 pub returns-in-0 : goal.returns-in-0
 unfolding passes test_of
-returns-in-0 c = rw c.in-0.keys1
+returns-in-0 c = rw c.in-0.is
 
 pub returns-in-1 : goal.returns-in-1
 unfolding passes test_of
-returns-in-1 c = rw c.in-0.keys2
+returns-in-1 c = rw c.in-1.is
 
 pub returns-in-2 : goal.returns-in-2
 unfolding passes test_of
-returns-in-2 c = rw c.in-0.keys3
+returns-in-2 c = rw c.in-2.is
 
 pub returns-in-3 : goal.returns-in-3
 unfolding passes test_of
-returns-in-3 c = rw c.in-0.keys4
+returns-in-3 c = rw c.in-3.is
 
 pub returns-in_default : goal.returns-in_default
 unfolding passes test_of

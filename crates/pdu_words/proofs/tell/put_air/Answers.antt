@@ -5,8 +5,6 @@ use lib.Seq.{take_all}
 use Rattle.std.proofs.Common.{rules}
 use Rattle.pdu_words.proofs.tell.put_air.Goals as goal
 
-full : (c : tie.Start) → length c.args.list.items ≡ 128
-full c = search rules
-
 pub returns : goal.returns
-returns c = rw (← c.flat_air-f.ensures, take_all 128 c.args.list.items (omega (arith, full c))) c.put_air.ensures
+returns c = let full : length c.args.list.items ≡ 128 = search rules in
+    rw (← c.flat_air-f.ensures, take_all 128 c.args.list.items (omega (arith, full))) c.put_air.ensures

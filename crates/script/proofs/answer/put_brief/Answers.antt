@@ -10,11 +10,7 @@ use Prim.Native.Nat.{◌≤◌}
 use Rattle.text.specs.Text.{both}
 use Rattle.text.specs.Words.{words_of}
 use Rattle.script.proofs.Short.{brief-length}
-use Rattle.std.proofs.Common.{rules}
 use Rattle.script.proofs.answer.put_brief.Goals as goal
-
-eight : (c : tie.Start) → length c.args.b.acts.list ≡ 8
-eight c = search rules
 
 abbrev named : (c : tie.Start) → Names
 named c = names (words_of c.args.words.now c.args.begins.now) (words_of c.args.timers.now c.args.starts.now)

@@ -8,11 +8,11 @@ returns-then-c-ge-STOP c = rw (timer-alone _ _ _ _ _ c.if-c-ge-STOP.true) c.put_
 
 pub returns-in-5 : goal.returns-in-5
 unfolding behind
-returns-in-5 c = entry-parts _ _ _ _ _ c.if-c-ge-STOP.false c.put_word-a.ensures (rw c.in-5.keys1 c.put_spaced.ensures)
+returns-in-5 c = entry-parts _ _ _ _ _ c.if-c-ge-STOP.false c.put_word-a.ensures (rw c.in-5.is c.put_spaced.ensures)
 
 pub returns-in-6 : goal.returns-in-6
 unfolding behind
-returns-in-6 c = entry-parts _ _ _ _ _ c.if-c-ge-STOP.false c.put_word-a.ensures (rw c.in-5.keys2 c.put_decimal.ensures)
+returns-in-6 c = entry-parts _ _ _ _ _ c.if-c-ge-STOP.false c.put_word-a.ensures (rw c.in-6.is c.put_decimal.ensures)
 
 pub returns-in-1-to-4 : goal.returns-in-1-to-4
 returns-in-1-to-4 c = entry-parts _ _ _ _ _ c.if-c-ge-STOP.false c.put_word-a.ensures (rw (behind-goes _ _ _ _ c.if-c-lt1.false c.if-c-lt5.true) c.put_spaced-in-1-to-4.ensures)

@@ -4,15 +4,15 @@ use Rattle.script.proofs.line.hold.Goals as goal
 
 pub returns-in-1 : goal.returns-in-1
 unfolding field_of
-returns-in-1 c = rw c.in-1.keys1 (c.hold_nothing.ensures.is _)
+returns-in-1 c = rw c.in-1.is (c.hold_nothing.ensures.is _)
 
 pub returns-in-2 : goal.returns-in-2
 unfolding field_of
-returns-in-2 c = rw c.in-1.keys2 c.hold_octets.ensures
+returns-in-2 c = rw c.in-2.is c.hold_octets.ensures
 
 pub returns-in-3 : goal.returns-in-3
 unfolding field_of
-returns-in-3 c = rw (c.in-1.keys3, ← c.number_after.ensures) (c.hold_number.ensures.is _)
+returns-in-3 c = rw (c.in-3.is, ← c.number_after.ensures) (c.hold_number.ensures.is _)
 
 pub returns-in_default : goal.returns-in_default
 unfolding field_of held_in

@@ -3,8 +3,8 @@ use Rattle.script.proofs.line.hold_number.Goals as goal
 
 pub returns-in-Value : goal.returns-in-Value
 unfolding counted held_in
-returns-in-Value c = record { is = λ o. rw c.v-1.given.1 }
+returns-in-Value c = record { is = λ o. rw c.in-Value.is }
 
 pub returns-in-Unread : goal.returns-in-Unread
 unfolding counted held_in
-returns-in-Unread c = record { is = λ o. rw c.enum_told-1.given.1 }
+returns-in-Unread c = record { is = λ o. rw c.in-Unread.is }

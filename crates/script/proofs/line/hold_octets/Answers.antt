@@ -15,16 +15,16 @@ pub returns-in-Octets : goal.returns-in-Octets
 unfolding held_in hex_in
 returns-in-Octets c = let h = c.parse_hex-h.ensures in
     let is = hex-heard c.args.tail.now c.args.octets.now c.if-tail-eq0.false c.if-tail-eq1.false c.requires.0 c.requires.1 in
-    rw (← h.found_is, c.h-1.given.1, ← h.buffer_is) at is
+    rw (← h.found_is, c.in-Octets.is, ← h.buffer_is) at is
 
 pub returns-in-Long : goal.returns-in-Long
 unfolding held_in hex_in
 returns-in-Long c = let h = c.parse_hex-h.ensures in
     let is = hex-heard c.args.tail.now c.args.octets.now c.if-tail-eq0.false c.if-tail-eq1.false c.requires.0 c.requires.1 in
-    rw (← h.found_is, c.enum_told-1.given.1) at is
+    rw (← h.found_is, c.in-Long.is) at is
 
 pub returns-in-Garbled : goal.returns-in-Garbled
 unfolding held_in hex_in
 returns-in-Garbled c = let h = c.parse_hex-h.ensures in
     let is = hex-heard c.args.tail.now c.args.octets.now c.if-tail-eq0.false c.if-tail-eq1.false c.requires.0 c.requires.1 in
-    rw (← h.found_is, c.enum_told-in-Garbled-1.given.1) at is
+    rw (← h.found_is, c.in-Garbled.is) at is

@@ -14,7 +14,7 @@ pub loop-i-preserved : goal.loop-i-preserved
 loop-i-preserved c = let k = c.loop-i in
     let g = c.put_byte-n in
     let m = octet-goes _ k.i c.loop-i-test.true c.if-b-eq10.false g.ensures in
-    (g.auto.0 ∙ k.invariant.0, m.0 ∙ k.invariant.1, m.1 ∙ k.invariant.2, m.2 ∙ k.invariant.3)
+    (g.auto.out ∙ k.invariant.0, m.0 ∙ k.invariant.1, m.1 ∙ k.invariant.2, m.2 ∙ k.invariant.3)
 
 pub returns : goal.returns
 returns c = let k = c.loop-i in

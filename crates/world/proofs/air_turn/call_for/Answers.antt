@@ -4,19 +4,19 @@ use Rattle.world.proofs.air_turn.call_for.Goals as goal
 
 pub returns-in-1 : goal.returns-in-1
 unfolding call_for
-returns-in-1 c = rw c.in-1.keys1
+returns-in-1 c = rw c.in-1.is
 
 pub returns-in-3 : goal.returns-in-3
 unfolding call_for
-returns-in-3 c = rw c.in-1.keys2
+returns-in-3 c = rw c.in-3.is
 
 pub returns-in-4 : goal.returns-in-4
 unfolding call_for
-returns-in-4 c = rw c.in-1.keys3
+returns-in-4 c = rw c.in-4.is
 
 pub returns-in-5 : goal.returns-in-5
 unfolding call_for
-returns-in-5 c = rw c.in-1.keys4
+returns-in-5 c = rw c.in-5.is
 
 pub returns-in_default : goal.returns-in_default
 unfolding call_for

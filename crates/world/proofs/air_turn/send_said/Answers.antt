@@ -8,18 +8,18 @@ use mathlib.Core.Path.{◌≡◌, sym, ap, ◌∙◌}
 use Rattle.std.proofs.Common.{rules}
 use Rattle.world.proofs.air_turn.send_said.Goals as goal
 
-whole : (c : tie.Start) → length c.args.said.sent.octets ≡ 115
-whole c = search rules
-
 pub slice_bounds-o-end : goal.slice_bounds-o-end
-slice_bounds-o-end c = omega (arith, whole c, c.least-m.ensures.within)
+slice_bounds-o-end c = let whole : length c.args.said.sent.octets ≡ 115 = search rules in
+    omega (arith, whole, c.least-m.ensures.within)
 
 pub slice_bounds-send_all-end : goal.slice_bounds-send_all-end
-slice_bounds-send_all-end c = sym (length-take-le _ _ (omega (arith, whole c, c.least-m.ensures.within)))
+slice_bounds-send_all-end c = let whole : length c.args.said.sent.octets ≡ 115 = search rules in
+    sym (length-take-le _ _ (omega (arith, whole, c.least-m.ensures.within)))
 
 pub returns : goal.returns
 unfolding sent_by
-returns c = let said = c.args.said in
+returns c = let whole : length c.args.said.sent.octets ≡ 115 = search rules in
+    let said = c.args.said in
     let o = said.sent.octets in
-    let e : take c.least-m.result o ≡ take said.sent.n o = ap (λ (j : ℕ). take j o) c.least-m.ensures.is ∙ take-least said.sent.n 115 o (whole c) in
+    let e : take c.least-m.result o ≡ take said.sent.n o = ap (λ (j : ℕ). take j o) c.least-m.ensures.is ∙ take-least said.sent.n 115 o (whole) in
     rw e at c.send_all.ensures
