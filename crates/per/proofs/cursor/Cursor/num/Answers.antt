@@ -7,11 +7,11 @@ use Rattle.per.proofs.Leaf.{judged-stays, judged-bad, judged-good, above-8, abov
 use Rattle.per.proofs.cursor.Cursor.num.Goals as goal
 
 pub returns-then-n-ne0 : goal.returns-then-n-ne0
-returns-then-n-ne0 c = let w = c.width_of_lem.ensures in
+returns-then-n-ne0 c = let w = c.width_of.ensures in
     judged-stays (num_field _ _) (w.0 ∙ ap width c.span.ensures) w.1 c.take-t.ensures refl c.if-n-ne0.true
 
 pub returns-then-above : goal.returns-then-above
-returns-then-above c = let w = c.width_of_lem.ensures in
+returns-then-above c = let w = c.width_of.ensures in
     judged-bad (num_field _ _) (w.0 ∙ ap width c.span.ensures) w.1 c.take-t.ensures 7 c.if-n-ne0.false
     (above-8 c.args.lo c.args.hi c.take-t.result.value _ c.above.ensures c.if-above.true)
 
@@ -19,6 +19,6 @@ pub overflow_add-result : goal.overflow_add-result
 overflow_add-result c = omega (arith, above-le c.args.lo c.args.hi c.take-t.result.value _ c.above.ensures c.if-above.false)
 
 pub returns : goal.returns
-returns c = let w = c.width_of_lem.ensures in
+returns c = let w = c.width_of.ensures in
     judged-good (num_field _ _) (w.0 ∙ ap width c.span.ensures) w.1 c.take-t.ensures c.if-n-ne0.false
     (unless-le _ _ 8 (above-le c.args.lo c.args.hi c.take-t.result.value _ c.above.ensures c.if-above.false))

@@ -6,17 +6,17 @@ use Rattle.per.proofs.SignedRead.{less-fits, less-is}
 use Rattle.per.proofs.cursor.Cursor.signed.Goals as goal
 
 pub returns-then-n-ne0 : goal.returns-then-n-ne0
-returns-then-n-ne0 c = let w = c.width_of_lem.ensures in
+returns-then-n-ne0 c = let w = c.width_of.ensures in
     judged-kept (signed_field _ _) w.0 w.1 c.take-t.ensures c.if-n-ne0.true
 
 pub returns-then-most-v : goal.returns-then-most-v
-returns-then-most-v c = let w = c.width_of_lem.ensures in
+returns-then-most-v c = let w = c.width_of.ensures in
     judged-bad (signed_field _ _) w.0 w.1 c.take-t.ensures 7 c.if-n-ne0.false (unless-gt _ _ 8 c.if-most-v.true)
 
 pub overflow_sub-number : goal.overflow_sub-number
 overflow_sub-number c = less-fits c.take-t.result.value c.args.below (omega arith) (omega arith)
 
 pub returns : goal.returns
-returns c = let w = c.width_of_lem.ensures in
+returns c = let w = c.width_of.ensures in
     rw (less-is c.take-t.result.value c.args.below (omega arith) (omega arith))
     (judged-good (signed_field _ _) w.0 w.1 c.take-t.ensures c.if-n-ne0.false (unless-le _ _ 8 c.if-most-v.false))

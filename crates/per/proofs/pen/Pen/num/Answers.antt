@@ -14,4 +14,4 @@ pub returns-then-hi-v : goal.returns-then-hi-v
 returns-then-hi-v c = field-barred (num_field _ _) 4 c.if-self-ne0.false (num-high _ _ _ c.if-v-lo.false c.if-hi-v.true)
 
 pub returns : goal.returns
-returns c = field-inked (num_field _ _) c.if-self-ne0.false (num-good _ _ _ c.if-v-lo.false c.if-hi-v.false) c.width_of_lem.ensures.0 refl c.ink.ensures
+returns c = field-inked (num_field _ _) c.if-self-ne0.false (num-good _ _ _ c.if-v-lo.false c.if-hi-v.false) c.width_of.ensures.0 refl c.ink.ensures

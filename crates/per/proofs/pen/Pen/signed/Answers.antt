@@ -10,4 +10,4 @@ returns-then-most-sent c = field-barred (signed_field _ _) 4 c.if-self-ne0.false
 
 pub returns : goal.returns
 returns c = let r = c.raise-sent.ensures.within c.if-most-sent.false in
-    field-inked (signed_field _ _) c.if-self-ne0.false r.0 c.width_of_lem.ensures.0 r.1 c.ink.ensures
+    field-inked (signed_field _ _) c.if-self-ne0.false r.0 c.width_of.ensures.0 r.1 c.ink.ensures
