@@ -21,7 +21,7 @@ module _ (z : ℤ) (k : ℕ) (f : mag z < 2 ^ 31) (q : k < 2 ^ 16) where
   h = record { sfits = f }
 
   same : to_z w64 (of_z w64 (to_z w32 (of_z w32 z))) ≡ z
-  same = ap (λ (y : ℤ). to_z w64 (of_z w64 y)) (to_z-of_z h) ∙ to_z-of_z {w = w64} (sfits_widen {w = w32} {v = w64} tt h)
+  same = ap (λ (y : ℤ). to_z w64 (of_z w64 y)) (to_z-of_z h) ∙ to_z-of_z {w = w64} (sfits_widen {w = w32} {w' = w64} tt h)
 
   few : to_z w64 k ≡ pos k
   few = let l : k < 2 ^ 63 = omega arith in to_z_pos w64 l

@@ -1,5 +1,10 @@
 use Rattle.air_answer.specs.Events.{request_event}
+use Rattle.std.proofs.Common.{rules}
 use Rattle.air_answer.proofs.events.request_event.Goals as goal
+
+pub returns-in-CancelEmergency : goal.returns-in-CancelEmergency
+unfolding request_event
+returns-in-CancelEmergency c = search rules
 
 pub returns-in-Demand : goal.returns-in-Demand
 unfolding request_event
@@ -28,3 +33,7 @@ returns-in-Periodic c = rw c.in-Periodic.is c.by_ack-in-Periodic.ensures
 pub returns-in-Positive : goal.returns-in-Positive
 unfolding request_event
 returns-in-Positive c = rw c.in-Positive.is c.positive_event.ensures
+
+pub returns-in-Abort : goal.returns-in-Abort
+unfolding request_event
+returns-in-Abort c = search rules

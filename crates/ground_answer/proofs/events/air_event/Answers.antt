@@ -1,5 +1,11 @@
 use Rattle.ground_answer.specs.Events.{air_event}
+use Rattle.std.proofs.Common.{rules}
+use Rattle.std.proofs.Common.{rules}
 use Rattle.ground_answer.proofs.events.air_event.Goals as goal
+
+pub returns-in-CancelEmergency : goal.returns-in-CancelEmergency
+unfolding air_event
+returns-in-CancelEmergency c = search rules
 
 pub returns-in-Demand : goal.returns-in-Demand
 unfolding air_event
@@ -28,3 +34,7 @@ returns-in-Periodic c = rw c.in-Periodic.is c.by_ack-in-Periodic.ensures
 pub returns-in-Positive : goal.returns-in-Positive
 unfolding air_event
 returns-in-Positive c = rw c.in-Positive.is c.positive_event.ensures
+
+pub returns-in-Abort : goal.returns-in-Abort
+unfolding air_event
+returns-in-Abort c = search rules
