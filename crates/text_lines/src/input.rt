@@ -4,7 +4,12 @@ ghost use Rattle.text_lines.specs.Inputs.{Shows, started};
 ghost use Rattle.text_lines.specs.Pulls.{left_of, Starts, Extends, Refills, Pulls};
 
 use crate::gather::gather;
-use libc::{STDERR_FILENO, STDIN_FILENO, STDOUT_FILENO};
+use std::io::{Read, Stdin};
+
+// The file numbers of standard output and of standard error.
+const STDOUT: i32 = 1;
+
+const STDERR: i32 = 2;
 
 // A page that has got this far is written out.
 pub const FULL: usize = 65536;
@@ -38,12 +43,12 @@ pub fn shown(at: usize, out: &[u8]) -> usize
 // Writes what stands on the page.
 fn write_out(at: usize, out: &[u8]) -> bool {
     let n = shown(at, out);
-    io::write_all(STDOUT_FILENO, &out[..n])
+    io::write_all(STDOUT, &out[..n])
 }
 
 // Says on standard error that the input was not read to its end.
 fn tell_failed() {
-    io::write_all(STDERR_FILENO, b"input could not be read to its end\n");
+    io::write_all(STDERR, b"input could not be read to its end\n");
 }
 
 // The place of the pen after the last line, and whether a read failed before the end of the input.
@@ -154,17 +159,18 @@ fn with_input(l: Line, input: Input, failed: bool) -> Line
 }
 
 // The line so far, with another chunk. What stands on the page is written out first: nobody waits for an answer while the program waits for a line.
-fn refill(l: Line, chunk: &mut [u8], out: &[u8]) -> Line
+fn refill(stdin: Stdin, l: Line, chunk: &mut [u8], out: &[u8]) -> Line
     ensures { Refills l result }
 {
     if !write_out(l.at, out) {
         return with_input(l, closed(), false);
     }
-    let got = libc::read(STDIN_FILENO, chunk);
-    if got <= 0 {
-        return with_input(l, closed(), got < 0);
-    }
-    let count = io::count(got, chunk);
+    let mut reader = stdin;
+    let count = match reader.read(chunk) {
+        Ok(0) => return with_input(l, closed(), false),
+        Ok(count) => count,
+        Err(_) => return with_input(l, closed(), true),
+    };
     let input = Input {
         from: 0,
         count,
@@ -174,7 +180,14 @@ fn refill(l: Line, chunk: &mut [u8], out: &[u8]) -> Line
 }
 
 // The next line, if there is one. The input has an end, but a proved loop has to have one, so it counts down from a number that no run uses up.
-pub fn pull_line(input: Input, at: usize, chunk: &mut [u8], line: &mut [u8], out: &[u8]) -> Line
+pub fn pull_line(
+    stdin: Stdin,
+    input: Input,
+    at: usize,
+    chunk: &mut [u8],
+    line: &mut [u8],
+    out: &[u8],
+) -> Line
     ensures { Pulls (length line.old) (left_of input chunk.old) result chunk.new line.new }
 {
     let mut l = start_line(input, at, out);
@@ -187,7 +200,7 @@ pub fn pull_line(input: Input, at: usize, chunk: &mut [u8], line: &mut [u8], out
         if !l.input.open {
             return l;
         }
-        l = refill(l, chunk, out);
+        l = refill(stdin, l, chunk, out);
         if l.failed {
             return l;
         }

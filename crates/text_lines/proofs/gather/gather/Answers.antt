@@ -1,5 +1,4 @@
 use mathlib.Core.Path.{refl, ◌∙◌}
-use Prim.Native.Nat.{◌-◌}
 use Rattle.text_lines.proofs.Gathering.{feed-ends, octet-goes, piece-ends}
 use Rattle.text_lines.proofs.gather.gather.Goals as goal
 
