@@ -93,7 +93,7 @@ weather-small true a h =
 -- ---- reports
 pub record ReportSmall (a : Report) : Type 0 where
   pub level : Small a.fix.position.level
-  pub ground : GroundSmall a.over_ground
+  pub over_ground : GroundSmall a.over_ground
   pub air : AirSmall a.air
   pub weather : WeatherSmall a.weather
 
@@ -117,7 +117,7 @@ report-small a h =
 
 pub record EmergencySmall (a : EmergencyReport) : Type 0 where
   pub level : Small a.fix.position.level
-  pub ground : GroundSmall a.over_ground
+  pub over_ground : GroundSmall a.over_ground
 
 pub emergency-small : (a : EmergencyReport) → emergency_report_c.chk a ≡ 0 → EmergencySmall (emergency_report_c.norm a)
 unfolding emergency_report_c via dep field only

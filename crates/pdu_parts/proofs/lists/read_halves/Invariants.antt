@@ -7,7 +7,7 @@ use Rattle.pdu_parts.proofs.lists.read_halves.Given as goal
 
 abbrev pub invariant-loop-i : goal.invariant-loop-i
 invariant-loop-i l = (l.i ≤ l.n)
-    × (l.refusal ≡ 0 → Filled (entry_c false 127) (l.i * 4) l.s (record { l.at = l.initial.at; l.refusal = l.initial.refusal }) l.items (record { l.at = l.at; l.refusal = l.refusal }))
+    × (l.refusal ≡ 0 → Filled (entry_c false 127) (l.i * 4) l.s (record { at = l.initial.at; refusal = l.initial.refusal }) l.items (record { at = l.at; refusal = l.refusal }))
 
 abbrev pub decreases-loop-i : goal.decreases-loop-i
 decreases-loop-i l = l.n - l.i

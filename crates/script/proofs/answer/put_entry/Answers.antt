@@ -21,4 +21,4 @@ pub returns-in_default : goal.returns-in_default
 returns-in_default c = entry-parts _ _ _ _ _ c.if-c-ge-STOP.false c.put_word-a.ensures (rw (behind-none _ _ _ _ c.if-c-lt1.true) (record { is = refl }))
 
 pub returns-in_default-2 : goal.returns-in_default-2
-returns-in_default-2 c = entry-parts _ _ _ _ _ c.if-c-ge-STOP.false c.put_word-a.ensures (rw (behind-over _ _ _ _ c.if-c-lt5.false c.in-5.rest.0.1 c.in-5.rest.1) (record { is = refl }))
+returns-in_default-2 c = entry-parts _ _ _ _ _ c.if-c-ge-STOP.false c.put_word-a.ensures (rw (behind-over _ _ _ _ c.if-c-lt5.false c.in_default.not-5 c.in_default.not-6) (record { is = refl }))

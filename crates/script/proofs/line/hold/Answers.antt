@@ -16,4 +16,4 @@ returns-in-3 c = rw (c.in-3.is, ← c.number_after.ensures) (c.hold_number.ensur
 
 pub returns-in_default : goal.returns-in_default
 unfolding field_of held_in
-returns-in_default c = rw (ne_eqb _ 1 c.in-1.rest.0.0.1, ne_eqb _ 2 c.in-1.rest.0.1, ne_eqb _ 3 c.in-1.rest.1)
+returns-in_default c = rw (ne_eqb _ 1 c.in_default.not-1, ne_eqb _ 2 c.in_default.not-2, ne_eqb _ 3 c.in_default.not-3)
