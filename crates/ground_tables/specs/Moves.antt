@@ -1,5 +1,5 @@
 -- The ground tables of 01, a row for each clause: at a state, on an event, what is done.
-use Rattle.std.specs.Prelude.{List, [], ◌∷◌, ℕ, ◌-◌, get_or, eqb}
+use Rattle.std.specs.Prelude.{List, [], ◌∷◌, ℕ, get_or, eqb}
 use Rattle.link.specs.Tests.{pick}
 use Rattle.link.specs.Names.{no_timer, DC, EC, PC, EM, LI, IDLE}
 use Rattle.link.specs.Moves.{Row, row, look, to, stop, ind, send, start, unlisted}

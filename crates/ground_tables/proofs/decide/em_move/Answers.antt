@@ -1,4 +1,4 @@
-use mathlib.Core.Logic.{inl, inr}
+use Rattle.std.proofs.Common.{arith}
 use borrow.Author.Tests.{ne_eqb}
 use Rattle.link.proofs.Laws.{cases}
 use Rattle.ground_tables.specs.Moves.{em_move, em_rows}
@@ -10,7 +10,7 @@ returns-in-4 c = rw (c.in-4.is, c.in-0.is) c.go.ensures
 
 pub returns-in_default-kind : goal.returns-in_default-kind
 unfolding em_move em_rows
-returns-in_default-kind c = rw c.in-0.is (simp (ne_eqb _ 4 c.in_default-kind.not-4) c.unlisted.ensures)
+returns-in_default-kind c = rw c.in-0.is (simp (ne_eqb c.args.kind 4 (λ k. omega arith)) c.unlisted.ensures)
 
 pub returns-in-0-kind : goal.returns-in-0-kind
 unfolding em_move em_rows
@@ -26,7 +26,7 @@ returns-in-9 c = rw (c.in-9.is, c.in-1.is) c.go-in-9.ensures
 
 pub returns-in_default-kind-2 : goal.returns-in_default-kind-2
 unfolding em_move em_rows
-returns-in_default-kind-2 c = rw c.in-1.is (simp (ne_eqb _ 9 c.in_default-kind-2.not-9, ne_eqb _ 4 c.in_default-kind-2.not-4-kind, ne_eqb _ 0 c.in_default-kind-2.not-0-kind) c.unlisted-in_default-kind-2.ensures)
+returns-in_default-kind-2 c = rw c.in-1.is (simp (ne_eqb c.args.kind 9 (λ k. omega arith), ne_eqb c.args.kind 4 (λ k. omega arith), ne_eqb c.args.kind 0 (λ k. omega arith)) c.unlisted-in_default-kind-2.ensures)
 
 pub returns-in-4-kind-2 : goal.returns-in-4-kind-2
 unfolding em_move em_rows
@@ -42,8 +42,8 @@ returns-in-9-kind c = rw (c.in-9-kind.is, c.in-2.is) c.go-in-9-kind.ensures
 
 pub returns-in_default-kind-3 : goal.returns-in_default-kind-3
 unfolding em_move em_rows
-returns-in_default-kind-3 c = rw c.in-2.is (simp (ne_eqb _ 9 c.in_default-kind-3.not-9-kind, ne_eqb _ 5 (λ k. c.in_default-kind-3.not-5 (inl k)), ne_eqb _ 7 (λ k. c.in_default-kind-3.not-5 (inr k)), ne_eqb _ 4 c.in_default-kind-3.not-4-kind-2) c.unlisted-in_default-kind-3.ensures)
+returns-in_default-kind-3 c = rw c.in-2.is (simp (ne_eqb c.args.kind 9 (λ k. grind arith), ne_eqb c.args.kind 5 (λ k. grind arith), ne_eqb c.args.kind 7 (λ k. grind arith), ne_eqb c.args.kind 4 (λ k. grind arith)) c.unlisted-in_default-kind-3.ensures)
 
 pub returns-in_default : goal.returns-in_default
 unfolding em_move em_rows
-returns-in_default c = simp (ne_eqb _ 2 c.in_default.not-2, ne_eqb _ 1 c.in_default.not-1, ne_eqb _ 0 c.in_default.not-0) c.unlisted-in_default.ensures
+returns-in_default c = simp (ne_eqb c.args.state 2 (λ k. omega arith), ne_eqb c.args.state 1 (λ k. omega arith), ne_eqb c.args.state 0 (λ k. omega arith)) c.unlisted-in_default.ensures
