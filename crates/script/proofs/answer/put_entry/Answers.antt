@@ -1,4 +1,5 @@
 use mathlib.Core.Path.{refl}
+use native.Mathlib.Omega.{arith}
 use Rattle.script.specs.Entries.{behind}
 use Rattle.script.proofs.Texts.{entry-parts, timer-alone, behind-goes, behind-none, behind-over}
 use Rattle.script.proofs.answer.put_entry.Goals as goal
@@ -15,10 +16,10 @@ unfolding behind
 returns-in-6 c = entry-parts _ _ _ _ _ c.if-c-ge-STOP.false c.put_word-a.ensures (rw c.in-6.is c.put_decimal.ensures)
 
 pub returns-in-1-to-4 : goal.returns-in-1-to-4
-returns-in-1-to-4 c = entry-parts _ _ _ _ _ c.if-c-ge-STOP.false c.put_word-a.ensures (rw (behind-goes _ _ _ _ c.if-c-lt1.false c.if-c-lt5.true) c.put_spaced-in-1-to-4.ensures)
+returns-in-1-to-4 c = entry-parts _ _ _ _ _ c.if-c-ge-STOP.false c.put_word-a.ensures (rw (behind-goes c.args.c _ _ _ (omega arith) (omega arith)) c.put_spaced-in-1-to-4.ensures)
 
 pub returns-in_default : goal.returns-in_default
-returns-in_default c = entry-parts _ _ _ _ _ c.if-c-ge-STOP.false c.put_word-a.ensures (rw (behind-none _ _ _ _ c.if-c-lt1.true) (record { is = refl }))
+returns-in_default c = entry-parts _ _ _ _ _ c.if-c-ge-STOP.false c.put_word-a.ensures (rw (behind-none c.args.c _ _ _ (omega arith)) (record { is = refl }))
 
 pub returns-in_default-2 : goal.returns-in_default-2
-returns-in_default-2 c = entry-parts _ _ _ _ _ c.if-c-ge-STOP.false c.put_word-a.ensures (rw (behind-over _ _ _ _ c.if-c-lt5.false c.in_default.not-5 c.in_default.not-6) (record { is = refl }))
+returns-in_default-2 c = entry-parts _ _ _ _ _ c.if-c-ge-STOP.false c.put_word-a.ensures (rw (behind-over c.args.c _ _ _ (omega arith) (omega arith) (omega arith)) (record { is = refl }))

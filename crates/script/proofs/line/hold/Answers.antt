@@ -1,4 +1,5 @@
 use borrow.Author.Tests.{ne_eqb}
+use native.Mathlib.Omega.{arith}
 use Rattle.script.specs.Fields.{field_of, held_in}
 use Rattle.script.proofs.line.hold.Goals as goal
 
@@ -16,4 +17,4 @@ returns-in-3 c = rw (c.in-3.is, ← c.number_after.ensures) (c.hold_number.ensur
 
 pub returns-in_default : goal.returns-in_default
 unfolding field_of held_in
-returns-in_default c = rw (ne_eqb _ 1 c.in_default.not-1, ne_eqb _ 2 c.in_default.not-2, ne_eqb _ 3 c.in_default.not-3)
+returns-in_default c = rw (ne_eqb c.args.shape 1 (omega arith), ne_eqb c.args.shape 2 (omega arith), ne_eqb c.args.shape 3 (omega arith))
