@@ -13,4 +13,4 @@ returns-in-2 c = rw (sym c.is_good.ensures ∙ not-false _ c.if-not-is_good.fals
 
 pub returns-in_default : goal.returns-in_default
 unfolding arrived
-returns-in_default c = rw (sym c.is_good.ensures ∙ not-false _ c.if-not-is_good.false-raw, ne_eqb _ 2 c.in_default.not-2) c.refuse-in_default.ensures
+returns-in_default c = rw (sym c.is_good.ensures ∙ not-false _ c.if-not-is_good.false-raw, ne_eqb _ 2 c.in_default.in_default-own.rest.1) c.refuse-in_default.ensures

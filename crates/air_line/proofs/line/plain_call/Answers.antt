@@ -32,4 +32,4 @@ returns-in-10 c = λ o. rw c.in-10.is
 
 pub returns-in_default : goal.returns-in_default
 unfolding plain_call parsed_with
-returns-in_default c = λ o. rw (ne_eqb _ 3 c.in_default.not-3, ne_eqb _ 5 c.in_default.not-5, ne_eqb _ 6 c.in_default.not-6, ne_eqb _ 7 c.in_default.not-7, ne_eqb _ 8 c.in_default.not-8, ne_eqb _ 9 c.in_default.not-9, ne_eqb _ 10 c.in_default.not-10)
+returns-in_default c = λ o. rw (ne_eqb _ 3 c.in_default.in_default-own.rest.0.0.0.0.0.0.1, ne_eqb _ 5 c.in_default.in_default-own.rest.0.0.0.0.0.1, ne_eqb _ 6 c.in_default.in_default-own.rest.0.0.0.0.1, ne_eqb _ 7 c.in_default.in_default-own.rest.0.0.0.1, ne_eqb _ 8 c.in_default.in_default-own.rest.0.0.1, ne_eqb _ 9 c.in_default.in_default-own.rest.0.1, ne_eqb _ 10 c.in_default.in_default-own.rest.1)

@@ -29,4 +29,4 @@ returns-in-2 c = rw (short-line (world_of c.args.w) c.args.number c.args.line.no
 
 pub returns-in_default : goal.returns-in_default
 unfolding flight_as
-returns-in_default c = rw (short-line (world_of c.args.w) c.args.number c.args.line.now c.find-word.result c.if-line-gt-LONGEST.false (c.find-word.ensures ∙ ap (λ (e : ℕ). found_from 0 (take e c.args.line.now) flight_words) c.word_end-e.ensures.is), ne_eqb _ 1 c.in_default.not-1, ne_eqb _ 2 c.in_default.not-2, ← c.word_end-e.ensures.is, ← part-all c.args.line.now c.word_end-e.result (length c.args.line.now) refl) c.other_line.ensures
+returns-in_default c = rw (short-line (world_of c.args.w) c.args.number c.args.line.now c.find-word.result c.if-line-gt-LONGEST.false (c.find-word.ensures ∙ ap (λ (e : ℕ). found_from 0 (take e c.args.line.now) flight_words) c.word_end-e.ensures.is), ne_eqb _ 1 c.in_default.in_default-own.rest.0.1, ne_eqb _ 2 c.in_default.in_default-own.rest.1, ← c.word_end-e.ensures.is, ← part-all c.args.line.now c.word_end-e.result (length c.args.line.now) refl) c.other_line.ensures

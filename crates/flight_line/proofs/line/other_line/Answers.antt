@@ -20,4 +20,4 @@ returns-in-6 c = rw c.in-6.is c.cut_line.ensures
 
 pub returns-in_default : goal.returns-in_default
 unfolding other_line
-returns-in_default c = rw (ne_eqb _ 3 c.in_default.not-3, ne_eqb _ 4 c.in_default.not-4, ne_eqb _ 5 c.in_default.not-5, ne_eqb _ 6 c.in_default.not-6) c.refuse_line.ensures
+returns-in_default c = rw (ne_eqb _ 3 c.in_default.in_default-own.rest.0.0.0.1, ne_eqb _ 4 c.in_default.in_default-own.rest.0.0.1, ne_eqb _ 5 c.in_default.in_default-own.rest.0.1, ne_eqb _ 6 c.in_default.in_default-own.rest.1) c.refuse_line.ensures

@@ -19,4 +19,4 @@ returns-in-3 c = rw (sym c.is_good.ensures ∙ not-false _ c.if-not-is_good.fals
 
 pub returns-in_default : goal.returns-in_default
 unfolding arrived
-returns-in_default c = rw (sym c.is_good.ensures ∙ not-false _ c.if-not-is_good.false-raw, ne_eqb _ 2 c.in_default.not-2, ne_eqb _ 3 c.in_default.not-3) c.refuse-in_default.ensures
+returns-in_default c = rw (sym c.is_good.ensures ∙ not-false _ c.if-not-is_good.false-raw, ne_eqb _ 2 c.in_default.in_default-own.rest.0.1, ne_eqb _ 3 c.in_default.in_default-own.rest.1) c.refuse-in_default.ensures

@@ -23,4 +23,4 @@ returns-in-2 c = rw (← c.request_event.ensures, ne_eqb _ 65 c.if-request_event
 
 pub returns-in_default : goal.returns-in_default
 unfolding requested
-returns-in_default c = rw (← c.request_event.ensures, ne_eqb _ 65 c.if-request_event-eq-CANCEL_ALL.false, sym c.is_good.ensures ∙ not-false _ c.if-not-is_good.false-raw, ne_eqb _ 0 c.in_default.not-0, ne_eqb _ 2 c.in_default.not-2) c.refuse-in_default.ensures
+returns-in_default c = rw (← c.request_event.ensures, ne_eqb _ 65 c.if-request_event-eq-CANCEL_ALL.false, sym c.is_good.ensures ∙ not-false _ c.if-not-is_good.false-raw, ne_eqb _ 0 c.in_default.in_default-own.rest.0.1, ne_eqb _ 2 c.in_default.in_default-own.rest.1) c.refuse-in_default.ensures

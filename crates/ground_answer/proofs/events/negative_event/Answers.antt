@@ -16,4 +16,4 @@ returns-in-2 c = rw c.in-2.is refl
 
 pub returns-in_default : goal.returns-in_default
 unfolding negative_event
-returns-in_default c = simp (ne_eqb _ 0 c.in_default.not-0, ne_eqb _ 1 c.in_default.not-1, ne_eqb _ 2 c.in_default.not-2) refl
+returns-in_default c = simp (ne_eqb _ 0 c.in_default.in_default-own.rest.0.0.1, ne_eqb _ 1 c.in_default.in_default-own.rest.0.1, ne_eqb _ 2 c.in_default.in_default-own.rest.1) refl

@@ -16,4 +16,4 @@ returns-in-16 c = rw c.in-16.is c.adsc_block_finish.ensures
 
 pub returns-in_default : goal.returns-in_default
 unfolding block_done
-returns-in_default c = rw (ne_eqb _ 14 c.in_default.not-14, ne_eqb _ 15 c.in_default.not-15, ne_eqb _ 16 c.in_default.not-16, ← c.number-first.ensures) c.adsc_block_play.ensures
+returns-in_default c = rw (ne_eqb _ 14 c.in_default.in_default-own.rest.0.0.1, ne_eqb _ 15 c.in_default.in_default-own.rest.0.1, ne_eqb _ 16 c.in_default.in_default-own.rest.1, ← c.number-first.ensures) c.adsc_block_play.ensures

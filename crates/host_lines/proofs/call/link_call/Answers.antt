@@ -17,4 +17,4 @@ returns-in-5 c = rw (c.in-5.is, ← c.number.ensures) c.adsc_elapse.ensures
 
 pub returns-in_default : goal.returns-in_default
 unfolding link_done
-returns-in_default c = simp (ne_eqb _ 3 c.in_default.not-3, ne_eqb _ 4 c.in_default.not-4, ne_eqb _ 5 c.in_default.not-5) c.other_call.ensures
+returns-in_default c = simp (ne_eqb _ 3 c.in_default.in_default-own.rest.0.0.1, ne_eqb _ 4 c.in_default.in_default-own.rest.0.1, ne_eqb _ 5 c.in_default.in_default-own.rest.1) c.other_call.ensures

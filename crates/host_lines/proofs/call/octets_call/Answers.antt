@@ -12,4 +12,4 @@ returns-in-7 c = rw c.in-7.is c.adsc_data.ensures
 
 pub returns-in_default : goal.returns-in_default
 unfolding octets_call
-returns-in_default c = simp (ne_eqb _ 6 c.in_default.not-6, ne_eqb _ 7 c.in_default.not-7) c.adsc_air_abort.ensures
+returns-in_default c = simp (ne_eqb _ 6 c.in_default.in_default-own.rest.0.1, ne_eqb _ 7 c.in_default.in_default-own.rest.1) c.adsc_air_abort.ensures

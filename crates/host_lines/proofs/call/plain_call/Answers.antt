@@ -20,4 +20,4 @@ returns-in-12 c = rw c.in-12.is c.adsc_peer_abort.ensures
 
 pub returns-in_default : goal.returns-in_default
 unfolding plain_call
-returns-in_default c = simp (ne_eqb _ 9 c.in_default.not-9, ne_eqb _ 10 c.in_default.not-10, ne_eqb _ 11 c.in_default.not-11, ne_eqb _ 12 c.in_default.not-12) c.adsc_down.ensures
+returns-in_default c = simp (ne_eqb _ 9 c.in_default.in_default-own.rest.0.0.0.1, ne_eqb _ 10 c.in_default.in_default-own.rest.0.0.1, ne_eqb _ 11 c.in_default.in_default-own.rest.0.1, ne_eqb _ 12 c.in_default.in_default-own.rest.1) c.adsc_down.ensures

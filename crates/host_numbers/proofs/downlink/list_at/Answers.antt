@@ -13,4 +13,4 @@ returns-in-5 c = rw (sym c.number-kind.ensures ∙ c.in-5.is) c.listed_at-in-5.e
 
 pub returns-in_default : goal.returns-in_default
 unfolding list_at
-returns-in_default c = rw (← c.number-kind.ensures, ne_eqb _ 4 c.in_default.not-4, ne_eqb _ 5 c.in_default.not-5) c.no_list.ensures
+returns-in_default c = rw (← c.number-kind.ensures, ne_eqb _ 4 c.in_default.in_default-own.rest.0.1, ne_eqb _ 5 c.in_default.in_default-own.rest.1) c.no_list.ensures

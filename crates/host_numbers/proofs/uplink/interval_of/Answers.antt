@@ -10,4 +10,4 @@ pub returns-in-1 : goal.returns-in-1
 returns-in-1 c = rw c.in-1.is
 
 pub returns-in_default : goal.returns-in_default
-returns-in_default c = other-scale _ _ (climb _ 1 (climb _ 0 (omega arith) c.in_default.not-0) c.in_default.not-1)
+returns-in_default c = other-scale _ _ (climb _ 1 (climb _ 0 (omega arith) c.in_default.in_default-own.rest.0.1) c.in_default.in_default-own.rest.1)

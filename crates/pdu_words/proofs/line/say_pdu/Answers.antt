@@ -12,4 +12,4 @@ returns-in-2 c = rw (← c.find.ensures, c.in-2.is) c.say_ground.ensures
 
 pub returns-in_default : goal.returns-in_default
 unfolding pdu_text family_of
-returns-in_default c = rw (← c.find.ensures, ne_eqb _ 1 c.in_default.not-1, ne_eqb _ 2 c.in_default.not-2) c.say_refused.ensures
+returns-in_default c = rw (← c.find.ensures, ne_eqb _ 1 c.in_default.in_default-own.rest.0.1, ne_eqb _ 2 c.in_default.in_default-own.rest.1) c.say_refused.ensures

@@ -21,4 +21,4 @@ returns-in-3 c = rw c.in-3.is
 
 pub returns-in_default : goal.returns-in_default
 unfolding passes test_of
-returns-in_default c = rw (ne_eqb _ 0 c.in_default.not-0, ne_eqb _ 1 c.in_default.not-1, ne_eqb _ 2 c.in_default.not-2, ne_eqb _ 3 c.in_default.not-3)
+returns-in_default c = rw (ne_eqb _ 0 c.in_default.in_default-own.rest.0.0.0.1, ne_eqb _ 1 c.in_default.in_default-own.rest.0.0.1, ne_eqb _ 2 c.in_default.in_default-own.rest.0.1, ne_eqb _ 3 c.in_default.in_default-own.rest.1)

@@ -66,4 +66,4 @@ returns-in-15 c = rw c.in-15.is c.put_time.ensures
 
 pub returns-in_default : goal.returns-in_default
 unfolding way_text way_of
-returns-in_default c = rw (ne_eqb _ 1 c.in_default.not-1, ne_eqb _ 2 c.in_default.not-2, ne_eqb _ 3 c.in_default.not-3, ne_eqb _ 4 c.in_default.not-4, ne_eqb _ 5 c.in_default.not-5, ne_eqb _ 6 c.in_default.not-6, ne_eqb _ 7 c.in_default.not-7, ne_eqb _ 8 c.in_default.not-8, ne_eqb _ 9 c.in_default.not-9, ne_eqb _ 10 c.in_default.not-10, ne_eqb _ 11 c.in_default.not-11, ne_eqb _ 12 c.in_default.not-12, ne_eqb _ 13 c.in_default.not-13, ne_eqb _ 14 c.in_default.not-14, ne_eqb _ 15 c.in_default.not-15) (record { is = refl })
+returns-in_default c = rw (ne_eqb _ 1 c.in_default.in_default-own.rest.0.0.0.0.0.0.0.0.0.0.0.0.0.0.1, ne_eqb _ 2 c.in_default.in_default-own.rest.0.0.0.0.0.0.0.0.0.0.0.0.0.1, ne_eqb _ 3 c.in_default.in_default-own.rest.0.0.0.0.0.0.0.0.0.0.0.0.1, ne_eqb _ 4 c.in_default.in_default-own.rest.0.0.0.0.0.0.0.0.0.0.0.1, ne_eqb _ 5 c.in_default.in_default-own.rest.0.0.0.0.0.0.0.0.0.0.1, ne_eqb _ 6 c.in_default.in_default-own.rest.0.0.0.0.0.0.0.0.0.1, ne_eqb _ 7 c.in_default.in_default-own.rest.0.0.0.0.0.0.0.0.1, ne_eqb _ 8 c.in_default.in_default-own.rest.0.0.0.0.0.0.0.1, ne_eqb _ 9 c.in_default.in_default-own.rest.0.0.0.0.0.0.1, ne_eqb _ 10 c.in_default.in_default-own.rest.0.0.0.0.0.1, ne_eqb _ 11 c.in_default.in_default-own.rest.0.0.0.0.1, ne_eqb _ 12 c.in_default.in_default-own.rest.0.0.0.1, ne_eqb _ 13 c.in_default.in_default-own.rest.0.0.1, ne_eqb _ 14 c.in_default.in_default-own.rest.0.1, ne_eqb _ 15 c.in_default.in_default-own.rest.1) (record { is = refl })

@@ -20,4 +20,4 @@ returns-in-5 c = rw c.in-5.is
 
 pub returns-in_default : goal.returns-in_default
 unfolding call_for
-returns-in_default c = rw (ne_eqb _ 1 c.in_default.not-1, ne_eqb _ 3 c.in_default.not-3, ne_eqb _ 4 c.in_default.not-4, ne_eqb _ 5 c.in_default.not-5)
+returns-in_default c = rw (ne_eqb _ 1 c.in_default.in_default-own.rest.0.0.0.1, ne_eqb _ 3 c.in_default.in_default-own.rest.0.0.1, ne_eqb _ 4 c.in_default.in_default-own.rest.0.1, ne_eqb _ 5 c.in_default.in_default-own.rest.1)
