@@ -5,9 +5,6 @@ use Rattle.channel.specs.Channel.{held_in}
 use Rattle.std.proofs.Common.{rules}
 use Rattle.channel.proofs.count.Goals as goal
 
-whole : (c : tie.Start) → length c.args.c.letters ≡ 17
-whole c = search (rules, length-mapped)
-
 pub returns : goal.returns
 unfolding held_in
-returns c = rw (length-take c.args.c.n c.args.c.letters, whole c) c.least.ensures.is
+returns c = let whole : length c.args.c.letters ≡ 17 = search (rules, length-mapped) in rw (length-take c.args.c.n c.args.c.letters, whole) c.least.ensures.is

@@ -1,6 +1,5 @@
 use lib.ListN.{length-set, drop_of_length-le}
 use mathlib.Core.Path.{refl, ◌∙◌}
-use Prim.Native.Nat.{◌-◌}
 use Rattle.channel.specs.Channel.{no_octets}
 use Rattle.channel.proofs.Laws.{fill-next}
 use Rattle.channel.proofs.fill.Goals as goal

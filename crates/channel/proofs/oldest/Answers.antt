@@ -5,13 +5,10 @@ use Rattle.channel.specs.Channel.{held_in, oldest_of}
 use Rattle.std.proofs.Common.{rules}
 use Rattle.channel.proofs.oldest.Goals as goal
 
-whole : (c : tie.Start) → length c.args.c.letters ≡ 17
-whole c = search (rules, length-mapped)
-
 pub returns-then-n-eq0 : goal.returns-then-n-eq0
 unfolding held_in oldest_of
 returns-then-n-eq0 c = rw c.if-n-eq0.true c.blank_letter.ensures
 
 pub returns : goal.returns
 unfolding held_in oldest_of
-returns c = first_any _ _ _ _ c.if-n-eq0.false (whole c)
+returns c = let whole : length c.args.c.letters ≡ 17 = search (rules, length-mapped) in first_any _ _ _ _ c.if-n-eq0.false whole

@@ -5,13 +5,10 @@ use Rattle.channel.specs.Channel.{held_in}
 use Rattle.std.proofs.Common.{rules}
 use Rattle.channel.proofs.push.Goals as goal
 
-whole : (c : tie.Start) → length c.args.c.letters ≡ 17
-whole c = search (rules, length-mapped)
-
 pub returns-then-n-ge-SLOTS : goal.returns-then-n-ge-SLOTS
 unfolding held_in
-returns-then-n-ge-SLOTS c = push-full _ _ _ (whole c) c.if-n-ge-SLOTS.true
+returns-then-n-ge-SLOTS c = let whole : length c.args.c.letters ≡ 17 = search (rules, length-mapped) in push-full _ _ _ whole c.if-n-ge-SLOTS.true
 
 pub returns : goal.returns
 unfolding held_in
-returns c = push-room _ _ _ (whole c) c.if-n-ge-SLOTS.false
+returns c = let whole : length c.args.c.letters ≡ 17 = search (rules, length-mapped) in push-room _ _ _ whole c.if-n-ge-SLOTS.false
