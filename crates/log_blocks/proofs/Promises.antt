@@ -9,7 +9,7 @@ use Rattle.octets.specs.Octets.{Octets}
 use Rattle.octets.specs.laws.Runs.{octets-take}
 use Rattle.log_blocks.specs.Block.{BLOCKS, block_of, judged}
 use Rattle.log_blocks.specs.Log.{All, got, bad, joined, pack, unpack, held, read_block}
-use Rattle.log_blocks.specs.Play.{Step, went, refused, play, play_log, calls, kept, recorded}
+use Rattle.log_blocks.specs.Play.{Step, went, refused, play_log, calls, kept, recorded}
 use Rattle.log_blocks.specs.Record.{Rec, Good, Call, noted, form_one}
 use Rattle.log_blocks.specs.Tapes.{tape, recorder, note_all, log_of}
 use Rattle.log_blocks.proofs.Packs.{unpack-pack, pack-bytes, block_back, held_all, held_fits, held_first, held-such}

@@ -16,7 +16,6 @@ use Rattle.log_blocks.specs.Block.{BLOCKS, check_of, front_of, block_of}
 use Rattle.log_blocks.specs.Record.{Rec, rec, rec_octets}
 use Rattle.log_blocks.specs.Tapes.{tape, written, fitting, appended, appended_to, finished, finished_to, Appends, Finishes}
 use Rattle.log_blocks.specs.declared.Tape.{Tape}
-use Rattle.log_blocks.specs.declared.Appended.{Appended}
 use Rattle.log_blocks.specs.declared.Appended.TheVariants.{Wrote, Full, Ended, Refused}
 use Rattle.log_blocks.specs.declared.Finished.TheVariants.{Next, Last, Unfit}
 use Rattle.log_blocks.proofs.Blocks.{front_long}

@@ -12,26 +12,26 @@ use Rattle.log_blocks.proofs.append.Goals as goal
 
 pub returns-then-not-fits : goal.returns-then-not-fits
 returns-then-not-fits c = let a = c.args in
-    no_block a.t a.block.now _ (sym c.fits2.ensures ∙ not-true _ c.if-not-fits.true-raw)
+    no_block a.t a.block.now _ (sym c.fits.ensures ∙ not-true _ c.if-not-fits.true-raw)
 
 pub overflow_add-more : goal.overflow_add-more
 overflow_add-more c = omega (arith, c.least-n.ensures.is)
 
 pub overflow_add-more-2 : goal.overflow_add-more-2
 overflow_add-more-2 c = let a = c.args in
-    let f = fits a.t _ (sym c.fits2.ensures ∙ not-false _ c.if-not-fits.false-raw) in
+    let f = fits a.t _ (sym c.fits.ensures ∙ not-false _ c.if-not-fits.false-raw) in
     omega (arith, c.least-n.ensures.is, f.room)
 
 pub overflow_add-number : goal.overflow_add-number
 overflow_add-number c = let a = c.args in
-    let f = fits a.t _ (sym c.fits2.ensures ∙ not-false _ c.if-not-fits.false-raw) in
+    let f = fits a.t _ (sym c.fits.ensures ∙ not-false _ c.if-not-fits.false-raw) in
     omega (arith, f.number)
 
 pub returns-then-number-lt-BLOCKS : goal.returns-then-number-lt-BLOCKS
 returns-then-number-lt-BLOCKS c = let a = c.args in
     let r = noted (rec a.kind a.seconds a.octets.now) in
     let l = length-take 129 a.octets.now in
-    no_room a.t a.block.now r (sym c.fits2.ensures ∙ not-false _ c.if-not-fits.false-raw)
+    no_room a.t a.block.now r (sym c.fits.ensures ∙ not-false _ c.if-not-fits.false-raw)
     (omega (arith, l, c.least-n.ensures.is, c.if-more-gt-ROOM.true))
     c.if-number-lt-BLOCKS.true
 
@@ -39,7 +39,7 @@ pub returns-then-more-gt-ROOM : goal.returns-then-more-gt-ROOM
 returns-then-more-gt-ROOM c = let a = c.args in
     let r = noted (rec a.kind a.seconds a.octets.now) in
     let l = length-take 129 a.octets.now in
-    no_more a.t a.block.now r (sym c.fits2.ensures ∙ not-false _ c.if-not-fits.false-raw)
+    no_more a.t a.block.now r (sym c.fits.ensures ∙ not-false _ c.if-not-fits.false-raw)
     (omega (arith, l, c.least-n.ensures.is, c.if-more-gt-ROOM.true))
     c.if-number-lt-BLOCKS.false
 
@@ -54,7 +54,7 @@ pub put_record-requires : goal.put_record-requires
 put_record-requires c = let a = c.args in
     let n = c.least-n in
     let l = length-take-le n.result a.octets.now (omega (arith, n.ensures.within)) in
-    let f = fits a.t _ (sym c.fits2.ensures ∙ not-false _ c.if-not-fits.false-raw) in
+    let f = fits a.t _ (sym c.fits.ensures ∙ not-false _ c.if-not-fits.false-raw) in
     omega (arith, l, n.ensures.is, c.if-more-gt-ROOM.false, f.long)
 
 pub returns : goal.returns
@@ -64,7 +64,7 @@ returns c = let a = c.args in
     let n = c.least-n.result in
     let m = c.least-n.ensures.is in
     let e : a.t.used + (6 + n) ≡ a.t.used + length (rec_octets r) = omega (arith, l, m) in
-    let w = room a.t a.block.now r (sym c.fits2.ensures ∙ not-false _ c.if-not-fits.false-raw) (omega (arith, l, m, c.if-more-gt-ROOM.false)) in
+    let w = room a.t a.block.now r (sym c.fits.ensures ∙ not-false _ c.if-not-fits.false-raw) (omega (arith, l, m, c.if-more-gt-ROOM.false)) in
     record {
       answer_is = ap (λ (u : _). Wrote (tape a.t.number u)) e ∙ w.answer_is;
       block_is = rw (c.put_record.ensures, take-least 129 n a.octets.now m) w.block_is;

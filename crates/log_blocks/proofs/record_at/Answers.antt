@@ -18,7 +18,7 @@ returns-then-start-end c = let a = c.args in
     at_cut a.block.now a.at c.read_pair.result c.if-block-ne-BLOCK.false c.read_pair.ensures (omega arith) (omega arith) (omega arith)
 
 pub overflow_cast-len : goal.overflow_cast-len
-overflow_cast-len c = omega (arith, c.octet-len.type-inv)
+overflow_cast-len c = omega (arith, c.octet-len.type_inv)
 
 pub returns-then-len-gt-KEPT : goal.returns-then-len-gt-KEPT
 returns-then-len-gt-KEPT c = let a = c.args in

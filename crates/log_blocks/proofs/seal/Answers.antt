@@ -10,10 +10,10 @@ use Rattle.log_blocks.proofs.Seals.{sealed}
 use Rattle.log_blocks.proofs.seal.Goals as goal
 
 pub slice_bounds-check_of-end-2 : goal.slice_bounds-check_of-end-2
-slice_bounds-check_of-end-2 c = sym (length-take-le 510 c.put_pair.new.0 (omega (arith, c.put_pair.auto.out, c.put_word.auto.out, c.put_zeros.auto.out, c.requires)))
+slice_bounds-check_of-end-2 c = sym (length-take-le 510 c.put_pair.new.out (omega (arith, c.put_pair.auto.out, c.put_word.auto.out, c.put_zeros.auto.out, c.requires)))
 
 pub check_of-check-requires : goal.check_of-check-requires
-check_of-check-requires c = omega (arith, length-take-le 510 c.put_pair.new.0 (omega (arith, c.put_pair.auto.out, c.put_word.auto.out, c.put_zeros.auto.out, c.requires)))
+check_of-check-requires c = omega (arith, length-take-le 510 c.put_pair.new.out (omega (arith, c.put_pair.auto.out, c.put_word.auto.out, c.put_zeros.auto.out, c.requires)))
 
 pub returns : goal.returns
 returns c = let q = c.put_pair-2 in
