@@ -44,5 +44,5 @@ returns-in-8 c = rw (sym c.number-kind.ensures ∙ c.in-8.is, c.number-in-8.ensu
 pub returns-in_default : goal.returns-in_default
 unfolding kind_at
 returns-in_default c = let k = c.number-kind in
-    let r = c.in-0.rest in
+    let r = c.in_default.in_default-own.rest in
     rw (← k.ensures) (other-air k.result _ (climb k.result 8 (climb k.result 7 (climb k.result 6 (climb k.result 5 (climb k.result 4 (climb k.result 3 (climb k.result 2 (climb k.result 1 (climb k.result 0 (omega arith) r.0.0.0.0.0.0.0.0.1) r.0.0.0.0.0.0.0.1) r.0.0.0.0.0.0.1) r.0.0.0.0.0.1) r.0.0.0.0.1) r.0.0.0.1) r.0.0.1) r.0.1) r.1))

@@ -40,5 +40,5 @@ returns-in-7 c = rw (sym c.number-kind.ensures ∙ c.in-7.is, c.number-n.ensures
 pub returns-in_default : goal.returns-in_default
 unfolding ground_at
 returns-in_default c = let k = c.number-kind in
-    let r = c.in-0.rest in
+    let r = c.in_default.in_default-own.rest in
     rw (← k.ensures) (other-ground k.result c.args.f.now (climb k.result 7 (climb k.result 6 (climb k.result 5 (climb k.result 4 (climb k.result 3 (climb k.result 2 (climb k.result 1 (climb k.result 0 (omega arith) r.0.0.0.0.0.0.0.1) r.0.0.0.0.0.0.1) r.0.0.0.0.0.1) r.0.0.0.0.1) r.0.0.0.1) r.0.0.1) r.0.1) r.1))

@@ -37,6 +37,6 @@ pub returns-in_default : goal.returns-in_default
 unfolding ground_c
 returns-in_default c = let i = c.index-i in
     let k = i.result.value in
-    let r = c.in-0.rest in
+    let r = c.in_default.in_default-own.rest in
     let h : 7 ≤ k = climb k 6 (climb k 5 (climb k 4 (climb k 3 (climb k 2 (climb k 1 (climb k 0 (omega arith) r.0.0.0.0.0.0.1) r.0.0.0.0.0.1) r.0.0.0.0.1) r.0.0.0.1) r.0.0.1) r.0.1) r.1 in
     after-ext c.extension.ensures (in-choice _ _ _ 7 (le_antisymm (num-most 0 7 i.ensures) h) i.ensures c.read_abort.ensures)
