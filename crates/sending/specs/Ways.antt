@@ -1,6 +1,6 @@
 -- What an answer puts under way (docs/FLIGHT.md): "Every entry of an end's answer that is for the dialogue service is under way from then on, with its PDU, in
 -- the order of the answers and of their entries".
-use Rattle.std.specs.Prelude.{Bool, true, false, List, [], ◌∷◌, ℕ, eqb, length, take}
+use Rattle.std.specs.Prelude.{Bool, List, [], ◌∷◌, ℕ, eqb, length, take}
 use Rattle.text.specs.Text.{pick, both}
 use Rattle.link.specs.Names.{ABORT-REQUEST}
 use Rattle.script.specs.Entries.{goes, rest_of}

@@ -4,7 +4,7 @@ use Rattle.text.proofs.Laws.{take-least}
 use lib.Seq.{length-take-le}
 use lib.ListN.{length, take, length-take}
 use native.Mathlib.Omega.{arith}
-use Prim.Native.Nat.{ℕ, ◌-◌, ◌≤◌}
+use Prim.Native.Nat.{ℕ, ◌≤◌}
 use mathlib.Core.Path.{◌≡◌, refl, sym, ap, ◌∙◌}
 use Rattle.std.proofs.Common.{rules}
 use Rattle.sending.proofs.send_all.Goals as goal
