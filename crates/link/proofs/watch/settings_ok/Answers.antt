@@ -1,6 +1,5 @@
 use mathlib.Core.Path.{refl, sym}
 use borrow.Author.Tests.{not-true, not-false}
-use Prim.Native.Nat.{◌-◌}
 use native.Mathlib.Omega.{arith}
 use Rattle.link.proofs.Laws.{below_more, below_fails, at-end}
 use Rattle.link.specs.Watch.{setting_ok}
