@@ -33,7 +33,7 @@ module _ (v : ℕ) (h : 2 ^ 31 ≤ v) (l : v < 2 ^ 32) where
   pub down_is : to_z w32 (of_z w32 (negsuc 0 -ℤ to_z w32 (4294967295 - v))) ≡ to_z w32 v
   down_is =
       let e : 2 ^ 32 - suc (4294967295 - v) ≡ v = omega arith in
-      to_z-of_z down_fits ∙ whole ∙ sym (to_z-neg w32 (4294967295 - v) small) ∙ ap (to_z w32) e
+      to_z-of_z {w = w32} down_fits ∙ whole ∙ sym (to_z-neg w32 (4294967295 - v) small) ∙ ap (to_z w32) e
 
 -- ---- from a number with a sign
 up : (n : ℕ) → negsuc 0 -ℤ negsuc n ≡ pos n
@@ -53,7 +53,7 @@ from_zero (negsuc n) e = absurd (false≢true (sym e))
 
 module _ (z : ℤ) (f : mag z < 2 ^ 31) where
   here : to_z w32 (of_z w32 z) ≡ z
-  here = to_z-of_z (record { sfits = f })
+  here = to_z-of_z {w = w32} (record { sfits = f })
 
   module _ (e : lt_z (to_z w32 (of_z w32 z)) (pos 0) ≡ true) where
     minus : z ≡ negsuc (mag z)
@@ -69,7 +69,7 @@ module _ (z : ℤ) (f : mag z < 2 ^ 31) where
     raised = to_z w32 (of_z w32 (negsuc 0 -ℤ to_z w32 (of_z w32 z)))
 
     raised_is : raised ≡ pos (mag z)
-    raised_is = to_z-of_z up_fits ∙ up_is
+    raised_is = to_z-of_z {w = w32} up_fits ∙ up_is
 
     pub up-cast : T (non_neg raised) × Fits w32 (nat_abs raised)
     up-cast = rw raised_is (tt, record { fits = omega (arith, f) })

@@ -20,7 +20,7 @@ truth-bit false = refl
 
 level-back : (z : ℤ) → mag z < 2 ^ 31 → signed_of (twos z) ≡ record { number = z }
 unfolding signed_of twos
-level-back z f = ap (λ (y : ℤ). record { number = y }) (to_z-of_z (record { sfits = f }))
+level-back z f = ap (λ (y : ℤ). record { number = y }) (to_z-of_z {w = w32} (record { sfits = f }))
 
 -- a number with a sign is one that 32 bits hold
 abbrev pub Holds : Signed → Type 0

@@ -11,4 +11,4 @@ unfolding opens
 returns-in-Emergency c = rw c.in-Emergency.is
 
 pub returns-in_default : goal.returns-in_default
-returns-in_default c = may-go c.args.a c.in-CancelEmergency.keys3
+returns-in_default c = may-go c.args.a c.in_default.in_default-own.keys3

@@ -4,7 +4,7 @@ use mathlib.Core.Path.{refl}
 use Rattle.air_answer.proofs.events.reason_in.Goals as goal
 
 pub returns-in_default : goal.returns-in_default
-returns-in_default c = no_abort c.args.g c.in-Abort.keys2
+returns-in_default c = no_abort c.args.g c.in_default.in_default-own.keys2
 
 pub returns : goal.returns
 unfolding reason_in
