@@ -3,6 +3,7 @@ use Rattle.std.specs.Prelude.{ℕ, ◌^◌, ◌<◌, ◌≡◌, Bool, true, fals
 use Rattle.std.proofs.Math.Path.{refl}
 use Rattle.std.proofs.Common.{ap, to_z-of_z}
 use Rattle.std.specs.Int.Signed.{mag}
+use mir.Syntax.{w32}
 use Rattle.per.specs.declared.cursor.Signed.{Signed}
 use Rattle.pdu_parts.specs.declared.report.Fix.{Fix}
 use Rattle.pdu_parts.specs.declared.report.Report.{Report}

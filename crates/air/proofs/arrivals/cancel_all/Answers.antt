@@ -1,3 +1,4 @@
+use borrow.Enum.Refused.{opened}
 use Rattle.per.specs.Pdu.{read_pdu}
 use Rattle.pdu.specs.UplinkTable.{ground_c}
 use Rattle.air_answer.proofs.Readings.{good-case, bad-case}
@@ -17,4 +18,4 @@ returns-in-CancelAll c = rw (c.end.ensures, c.own.ensures) (rw c.in-CancelAll.is
 
 pub returns-in_default-g : goal.returns-in_default-g
 unfolding all_cancelled
-returns-in_default-g c = rw c.abort-in_default-g.ensures (rw (no_cancel_all _ c.in_default-g.in_default-g-own.keys2) at (good-case (all_cancelled c.args.l) (read_pdu ground_c c.args.octets.now) _ (sym c.decode_ground-answer.ensures ∙ c.in-Good.is)))
+returns-in_default-g c = rw c.abort-in_default-g.ensures (rw (no_cancel_all _ (opened c.in_default-g.in_default-g-own.keys2)) at (good-case (all_cancelled c.args.l) (read_pdu ground_c c.args.octets.now) _ (sym c.decode_ground-answer.ensures ∙ c.in-Good.is)))

@@ -1,3 +1,4 @@
+use borrow.Enum.Refused.{opened}
 use Rattle.air_answer.specs.Events.{opens}
 use Rattle.air_answer.proofs.Tags.{may-go}
 use Rattle.air_answer.proofs.events.may_open.Goals as goal
@@ -11,4 +12,4 @@ unfolding opens
 returns-in-Emergency c = rw c.in-Emergency.is
 
 pub returns-in_default : goal.returns-in_default
-returns-in_default c = may-go c.args.a c.in_default.in_default-own.keys3
+returns-in_default c = may-go c.args.a (opened c.in_default.in_default-own.keys3)

@@ -1,10 +1,11 @@
+use borrow.Enum.Refused.{opened}
 use Rattle.ground_answer.specs.Events.{reason_in}
 use Rattle.ground_answer.proofs.AbortReasons.{no_abort}
 use Rattle.std.proofs.Common.{refl}
 use Rattle.ground_answer.proofs.events.reason_in.Goals as goal
 
 pub returns-in_default : goal.returns-in_default
-returns-in_default c = no_abort c.args.a c.in_default.in_default-own.keys2
+returns-in_default c = no_abort c.args.a (opened c.in_default.in_default-own.keys2)
 
 pub returns : goal.returns
 unfolding reason_in

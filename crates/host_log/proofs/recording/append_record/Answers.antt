@@ -1,3 +1,4 @@
+use borrow.Enum.Refused.{opened}
 use mathlib.Core.Path.{sym, ◌∙◌}
 use native.Mathlib.Omega.{arith}
 use borrow.Author.Tests.{not-true, not-false}
@@ -17,7 +18,7 @@ returns-in_default c = let a = c.args in
     let r = rec a.kind a.seconds a.octets.now in
     let h = sym c.is_open.ensures ∙ not-false _ c.if-not-is_open.false-raw in
     let f = sym c.fields_good.ensures ∙ not-false _ c.if-not-fields_good.false-raw in
-    no_room b r h f _ _ (rw c.tape_in-t.ensures at c.append-a.ensures) (was-full _ c.in_default.in_default-own.keys2)
+    no_room b r h f _ _ (rw c.tape_in-t.ensures at c.append-a.ensures) (was-full _ (opened c.in_default.in_default-own.keys2))
 
 pub overflow_cast-next : goal.overflow_cast-next
 overflow_cast-next c = let w = rw (c.tape_in-t.ensures, c.in-Wrote.is) at c.append-a.ensures in

@@ -1,3 +1,4 @@
+use borrow.Enum.Refused.{opened}
 use mathlib.Core.Path.{refl, sym, ap, ◌∙◌}
 use Rattle.script.specs.Fields.{held_in}
 use Rattle.script.specs.declared.line.Held.{Held}
@@ -15,7 +16,7 @@ pub returns-in_default : goal.returns-in_default
 returns-in_default c = let a = c.args in
     let d = a.octets.now in
     let h = c.hold_record-h in
-    was-held d h.result c.in_default.in_default-own.keys2
+    was-held d h.result (opened c.in_default.in_default-own.keys2)
     ∙ held-fields a.kind a.seconds d c.shape_of-shape.result h.result c.if-kind-eq0.false c.shape_of-shape.ensures h.ensures
 
 pub returns : goal.returns
