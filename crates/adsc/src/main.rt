@@ -1,6 +1,6 @@
 // Plays a bench script from standard input and writes its trace on standard output.
 #![tactic(auto)]
 
-fn main() {
-    bench::player::play();
+fn main(rt: HostRuntime) {
+    bench::player::play(rt.stdin());
 }

@@ -10,6 +10,7 @@ ghost use Rattle.air_bench.specs.Trace.{numbered};
 use crate::trace::{Trace, begin, number_line};
 use script::room::page_room;
 use script::trace::close;
+use std::io::Stdin;
 use text_lines::input::{finish, pull_line, shown, start};
 
 // A line answered on a page that has room: what stood there stays, and the whole answer stands behind it.
@@ -28,7 +29,7 @@ pub struct Played {
 }
 
 // Answers every line of the input. A proved loop has to end, so it counts down from a number that no run uses up.
-fn run(t: Trace, chunk: &mut [u8], line: &mut [u8], out: &mut [u8]) -> Played
+fn run(stdin: Stdin, t: Trace, chunk: &mut [u8], line: &mut [u8], out: &mut [u8]) -> Played
     requires { 131072 ≤ length out.old }
     ensures { Plays air_bench (length line.old) (left true []) t.number t.setup result.trace.number result.trace.setup result.failed }
 {
@@ -36,7 +37,7 @@ fn run(t: Trace, chunk: &mut [u8], line: &mut [u8], out: &mut [u8]) -> Played
     let mut input = start();
     let mut turns: u64 = 18446744073709551615;
     while turns > 0 {
-        let l = pull_line(input, e.at, chunk, line, out);
+        let l = pull_line(stdin, input, e.at, chunk, line, out);
         input = l.input;
         e.at = l.at;
         if !l.found {
@@ -56,12 +57,12 @@ fn run(t: Trace, chunk: &mut [u8], line: &mut [u8], out: &mut [u8]) -> Played
 }
 
 // Plays the whole script.
-pub fn play() {
+pub fn play(stdin: Stdin) {
     let mut chunk = io::large_buffer();
     let mut line = [0u8; 4097];
     let mut out = page_room();
     let t = begin(&mut out);
-    let p = run(t, &mut chunk, &mut line, &mut out);
+    let p = run(stdin, t, &mut chunk, &mut line, &mut out);
     let last = p.trace;
     let e = close(&mut out, last.at, last.number, p.failed);
     finish(e, &out);

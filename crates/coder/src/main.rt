@@ -4,6 +4,6 @@
 
 use pdu_words::lines::Task;
 
-fn main() {
-    pdu_words::lines::answer(Task::Code);
+fn main(rt: HostRuntime) {
+    pdu_words::lines::answer(rt.stdin(), Task::Code);
 }

@@ -11,6 +11,7 @@ use crate::ending::put_states;
 use crate::trace::{Trace, begin, number_line};
 use script::room::page_room;
 use script::trace::close;
+use std::io::Stdin;
 use text_lines::input::{Ended, finish, pull_line, shown, start};
 
 // A line answered on a page that has room: what stood there stays, and the whole answer stands behind it.
@@ -29,7 +30,7 @@ pub struct Played {
 }
 
 // Answers every line of the input. A proved loop has to end, so it counts down from a number that no run uses up.
-fn run(t: Trace, chunk: &mut [u8], line: &mut [u8], out: &mut [u8]) -> Played
+fn run(stdin: Stdin, t: Trace, chunk: &mut [u8], line: &mut [u8], out: &mut [u8]) -> Played
     requires { 131072 ≤ length out.old }
     ensures { Plays (length line.old) (left true []) t.number (world_of t.world) result.trace.number (world_of result.trace.world) result.trace.at result.failed }
 {
@@ -37,7 +38,7 @@ fn run(t: Trace, chunk: &mut [u8], line: &mut [u8], out: &mut [u8]) -> Played
     let mut input = start();
     let mut turns: u64 = 18446744073709551615;
     while turns > 0 {
-        let l = pull_line(input, e.at, chunk, line, out);
+        let l = pull_line(stdin, input, e.at, chunk, line, out);
         input = l.input;
         e.at = l.at;
         if !l.found {
@@ -74,12 +75,12 @@ fn end_flight(p: Played, out: &mut [u8]) -> Ended
 }
 
 // Plays the whole script.
-pub fn play() {
+pub fn play(stdin: Stdin) {
     let mut chunk = io::large_buffer();
     let mut line = [0u8; 4097];
     let mut out = page_room();
     let t = begin(&mut out);
-    let p = run(t, &mut chunk, &mut line, &mut out);
+    let p = run(stdin, t, &mut chunk, &mut line, &mut out);
     let e = end_flight(p, &mut out);
     finish(e, &out);
 }

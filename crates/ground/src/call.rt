@@ -12,6 +12,7 @@ use pdu::uplink::Ground;
 
 // The calls on a link, in the order of the script words; the octets of StartConfirm, Data and AirAbort stand beside.
 #[derive(Drop)]
+#[derive(Clone, Copy)]
 pub enum Call {
     Request(Ground),
     UserAbort,

@@ -1,5 +1,6 @@
 // Lines from standard input, an answer for each to standard output.
 use crate::line::answer_line;
+use std::io::Stdin;
 use text::put_byte;
 use text_lines::input::{Ended, finish, pull_line, shown, start};
 
@@ -14,12 +15,12 @@ fn put_answer(out: &mut Page, at: usize, len: usize, line: &[u8]) -> usize {
 }
 
 // Answers every line of the input. A proved loop has to end, so it counts down from a number that no run uses up.
-fn run(chunk: &mut [u8; 65536], line: &mut [u8; 4097], out: &mut Page) -> Ended {
+fn run(stdin: Stdin, chunk: &mut [u8; 65536], line: &mut [u8; 4097], out: &mut Page) -> Ended {
     let mut at = 0;
     let mut input = start();
     let mut turns: u64 = 18446744073709551615;
     while turns > 0 {
-        let l = pull_line(input, at, chunk, line, out);
+        let l = pull_line(stdin, input, at, chunk, line, out);
         input = l.input;
         at = l.at;
         if !l.found {
@@ -40,10 +41,10 @@ fn close(e: Ended, out: &Page) {
 }
 
 // Answers the whole input. 4,097 octets of a line are kept: enough to see that it is too long.
-pub fn answer() {
+pub fn answer(stdin: Stdin) {
     let mut chunk = io::large_buffer();
     let mut line = [0u8; 4097];
     let mut out = [0u8; 131072];
-    let e = run(&mut chunk, &mut line, &mut out);
+    let e = run(stdin, &mut chunk, &mut line, &mut out);
     close(e, &out);
 }

@@ -5,6 +5,6 @@
 // larger number the lowest. Any other line, or one over 4,096 octets, is `refused 17`.
 #![tactic(auto)]
 
-fn main() {
-    host_lines::lines::answer();
+fn main(rt: HostRuntime) {
+    host_lines::lines::answer(rt.stdin());
 }

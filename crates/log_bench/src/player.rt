@@ -6,12 +6,12 @@ ghost use Rattle.log_bench.specs.Logs.{outcome, ended, Ends, Closes};
 
 use crate::show::show_block;
 use bench::trace::{Trace, begin};
-use libc::STDIN_FILENO;
 use log_blocks::BLOCKS;
 use log_play::block::play_block;
 use refusals::NOT_READABLE;
 use script::room::page_room;
 use script::trace::close;
+use std::io::{Read, Stdin};
 use text::words::put_refused;
 use text::{put_byte, put_decimal, put_text};
 use text_lines::input::{Ended, finish};
@@ -24,23 +24,21 @@ pub struct Pulled {
 }
 
 // The next block. Each read brings an octet at the least, so a proved loop has turns enough.
-fn pull_block(block: &mut [u8]) -> Pulled
+fn pull_block(stdin: Stdin, block: &mut [u8]) -> Pulled
     ensures { result.len ≤ length block.new }
 {
+    let mut reader = stdin;
     let mut len: usize = 0;
     let mut turns: usize = 512;
     while turns > 0 {
         if len >= block.len() {
             return Pulled { len, failed: false };
         }
-        let got = libc::read(STDIN_FILENO, &mut block[len..]);
-        if got <= 0 {
-            return Pulled {
-                len,
-                failed: got < 0,
-            };
-        }
-        len += io::count(got, &block[len..]);
+        len += match reader.read(&mut block[len..]) {
+            Ok(0) => return Pulled { len, failed: false },
+            Ok(got) => got,
+            Err(_) => return Pulled { len, failed: true },
+        };
         turns -= 1;
     }
     Pulled { len, failed: false }
@@ -89,14 +87,14 @@ fn cut_off(t: Trace, block: u32) -> LogEnd
 }
 
 // Plays every block of the log. Behind the last number none is in turn, so the loop has turns enough.
-fn run(t: Trace, block: &mut [u8], out: &mut [u8]) -> LogEnd
+fn run(stdin: Stdin, t: Trace, block: &mut [u8], out: &mut [u8]) -> LogEnd
     requires { 131072 ≤ length out.old }
     ensures { Ends 0 t.number t.setup (outcome result.trace.number result.trace.setup result.refusal result.block) result.failed }
 {
     let mut e = t;
     let mut k: u32 = 0;
     while k <= BLOCKS {
-        let p = pull_block(block);
+        let p = pull_block(stdin, block);
         let n = p.len;
         if p.failed {
             return cut_off(e, k);
@@ -145,11 +143,11 @@ fn close_log(out: &mut [u8], at: usize, n: u64, refusal: u8, block: u32, failed:
 }
 
 // Plays the whole log.
-pub fn play() {
+pub fn play(stdin: Stdin) {
     let mut block = [0u8; 512];
     let mut out = page_room();
     let t = begin(&mut out);
-    let r = run(t, &mut block, &mut out);
+    let r = run(stdin, t, &mut block, &mut out);
     let last = r.trace;
     let e = close_log(&mut out, last.at, last.number, r.refusal, r.block, r.failed);
     finish(e, &out);

@@ -26,6 +26,7 @@ const MODULUS: u32 = 65521;
 
 // The block that is being written: its number, and how many octets of payload it has.
 #[derive(Drop)]
+#[derive(Clone, Copy)]
 pub struct Tape {
     pub number: u32,
     pub used: usize,

@@ -32,6 +32,7 @@ const ROOM: usize = 2048;
 
 // The box after a line, and the record that is `kept` of it: the data are the first `len` octets of a buffer.
 #[derive(Drop)]
+#[derive(Clone, Copy)]
 pub struct Entry {
     pub setup: Setup,
     pub kept: bool,

@@ -11,12 +11,14 @@ use ground_answer::fresh::idle_link;
 use link::moves::TIMERS;
 use log_blocks::{Appended, Finished, Tape, append};
 use script::room::{line_room, page_room};
+use std::io::Stdin;
 use text::{least, put_text};
 use text_lines::input::{Ended, finish, pull_line, shown, start};
 
 // The box, the block that is being written, and the place of the pen on the page of finished ones. A block that is `full` is to be finished before the next record,
 // and a log that has `ended` takes no record more.
 #[derive(Drop)]
+#[derive(Clone, Copy)]
 pub struct Recorder {
     pub setup: Setup,
     pub tape: Tape,
@@ -128,6 +130,7 @@ pub struct Recorded {
 
 // Records every line of the input. A proved loop has to end, so it counts down from a number that no run uses up.
 fn run(
+    stdin: Stdin,
     r: Recorder,
     chunk: &mut [u8],
     line: &mut [u8],
@@ -138,7 +141,7 @@ fn run(
     let mut input = start();
     let mut turns: u64 = 18446744073709551615;
     while turns > 0 {
-        let l = pull_line(input, e.at, chunk, line, out);
+        let l = pull_line(stdin, input, e.at, chunk, line, out);
         input = l.input;
         e.at = l.at;
         if !l.found {
@@ -169,7 +172,7 @@ fn close_log(r: Recorder, block: &mut [u8], out: &mut [u8]) -> Recorder
 }
 
 // Records the whole script.
-pub fn record() {
+pub fn record(stdin: Stdin) {
     let mut chunk = io::large_buffer();
     let mut line = [0u8; 4097];
     let mut block = [0u8; 512];
@@ -182,7 +185,7 @@ pub fn record() {
         full: false,
         ended: false,
     };
-    let e = run(r, &mut chunk, &mut line, &mut block, &mut out);
+    let e = run(stdin, r, &mut chunk, &mut line, &mut block, &mut out);
     let last = close_log(e.recorder, &mut block, &mut out);
     finish(
         Ended {

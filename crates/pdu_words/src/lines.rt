@@ -5,6 +5,7 @@ ghost use Rattle.pdu_words.specs.LineText.{answer_text};
 
 use crate::line::say_line;
 use crate::page::Page;
+use std::io::Stdin;
 use text::put_byte;
 use text_lines::input::{Ended, finish, pull_line, shown, start};
 
@@ -29,12 +30,18 @@ fn put_answer(task: Task, out: &mut Page, at: usize, len: usize, line: &[u8]) ->
 
 // Answers every line of the input. A proved loop has to end, so it counts down from a number that no run uses up. It states no result: which
 // octets a read brings, and that a write arrives, no contract can say.
-fn run(task: Task, chunk: &mut [u8; 65536], line: &mut [u8; 4097], out: &mut Page) -> Ended {
+fn run(
+    stdin: Stdin,
+    task: Task,
+    chunk: &mut [u8; 65536],
+    line: &mut [u8; 4097],
+    out: &mut Page,
+) -> Ended {
     let mut at = 0;
     let mut input = start();
     let mut turns: u64 = 18446744073709551615;
     while turns > 0 {
-        let l = pull_line(input, at, chunk, line, out);
+        let l = pull_line(stdin, input, at, chunk, line, out);
         input = l.input;
         at = l.at;
         if !l.found {
@@ -55,10 +62,10 @@ fn close(e: Ended, out: &Page) {
 }
 
 // Answers the whole input, and states no result, as `run`. 4,097 octets of a line are kept: enough to see that it is too long.
-pub fn answer(task: Task) {
+pub fn answer(stdin: Stdin, task: Task) {
     let mut chunk = io::large_buffer();
     let mut line = [0u8; 4097];
     let mut out = [0u8; 131072];
-    let e = run(task, &mut chunk, &mut line, &mut out);
+    let e = run(stdin, task, &mut chunk, &mut line, &mut out);
     close(e, &out);
 }

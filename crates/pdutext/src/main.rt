@@ -3,6 +3,6 @@
 
 use pdu_words::lines::Task;
 
-fn main() {
-    pdu_words::lines::answer(Task::Tell);
+fn main(rt: HostRuntime) {
+    pdu_words::lines::answer(rt.stdin(), Task::Tell);
 }

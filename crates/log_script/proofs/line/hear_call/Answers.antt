@@ -1,0 +1,35 @@
+use mathlib.Core.Path.{sym}
+use native.Mathlib.Omega.{arith}
+use lib.Seq.{length-take-le}
+use Rattle.log_script.proofs.Ways.{hears-as, unread-heard, refused-heard, accepted-hears, request-good}
+use Rattle.log_script.proofs.line.hear_call.Goals as goal
+
+pub returns-in_default : goal.returns-in_default
+returns-in_default c = let k = c.parse_line-told in
+    hears-as _ _ (unread-heard c.args.b c.args.line.now _ _ c.requires k.result k.ensures c.in_default.is) (c.nothing.ensures _)
+
+pub slice_bounds-answer-end-2 : goal.slice_bounds-answer-end-2
+slice_bounds-answer-end-2 c = sym (length-take-le _ _ c.least-m.ensures.within)
+
+pub returns-then-said-ne0 : goal.returns-then-said-ne0
+returns-then-said-ne0 c = let k = c.parse_line-told in
+    let t = c.told-1 in
+    let s = c.answer-a in
+    hears-as _ _
+    (refused-heard c.args.b c.args.line.now _ _ c.requires k.result k.ensures _ _ _ t.given.1 c.least-m.ensures.is s.result s.ensures c.if-said-ne0.true)
+    (c.nothing-then-said-ne0.ensures _)
+
+pub put_data-len-requires : goal.put_data-len-requires
+put_data-len-requires c = let k = c.parse_line-told in
+    let t = c.told-1 in
+    let s = c.answer-a in (
+      request-good c.args.b c.args.line.now _ _ c.requires k.result k.ensures _ _ _ t.given.1 c.least-m.ensures.is s.result s.ensures c.if-said-ne0.false,
+      omega (arith, k.auto.octets, c.requires),
+    )
+
+pub returns : goal.returns
+returns c = let k = c.parse_line-told in
+    let t = c.told-1 in
+    let s = c.answer-a in
+    accepted-hears c.args.b c.args.line.now _ _ c.requires k.result k.ensures _ _ _ t.given.1 c.least-m.ensures.is s.result s.ensures c.if-said-ne0.false _ _ _ _
+    (c.kind_of-kind.ensures _) (c.seconds_of-seconds.ensures _) c.put_data-len.ensures
