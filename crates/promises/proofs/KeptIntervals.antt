@@ -33,7 +33,7 @@ use Rattle.ground.specs.Requests.{asked, requested}
 use Rattle.ground.specs.Arrivals.{ended, passed, taken, confirmed, arrived}
 use Rattle.ground.specs.Runs.{answered}
 use Rattle.ground.specs.declared.call.Call.{Call}
-use Rattle.ground.specs.declared.call.Call.TheVariants.{Request, StartConfirm, Data}
+use Rattle.ground.specs.declared.call.Call.TheVariants.{Request, UserAbort, Elapse, StartConfirm, StartRejected, Data, EndConfirm, PeerAbort, AirAbort, Down}
 use Rattle.promises.specs.Intervals as page
 use Rattle.promises.specs.Intervals.{Comes, starting, active, Heard}
 
@@ -60,6 +60,14 @@ heard-as l c octets a h = go c h.comes
     go : (c : Call) → Comes l c → answered l c octets ≡ passed l (air_event a.kind)
     go StartConfirm (starting at) = rw (T-eq (good l) h.is_good, eq-eqb (get_or l.at LI 0) LI-START at, h.reads)
     go Data (active at) = rw (T-eq (good l) h.is_good, eq-eqb (get_or l.at LI 0) LI-ACTIVE at, h.reads)
+    go (Request g) x = elim x [ ]
+    go UserAbort x = elim x [ ]
+    go (Elapse n) x = elim x [ ]
+    go StartRejected x = elim x [ ]
+    go EndConfirm x = elim x [ ]
+    go PeerAbort x = elim x [ ]
+    go AirAbort x = elim x [ ]
+    go Down x = elim x [ ]
 
 -- one of three events, one of two states
 agrees-one : (P : ℕ → Type 0) (e : ℕ) → T (agrees e) → P 36 → P 38 → P 40 → P e

@@ -12,4 +12,4 @@ ground-ways = record {
 }
 
 pub messages : Messages
-messages = record { air = record { written = air-written; accepted = air-read }; over_ground = ground-ways }
+messages = record { air = record { written = air-written; accepted = air-read }; ground = ground-ways }

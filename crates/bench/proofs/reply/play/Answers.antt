@@ -30,7 +30,7 @@ unfolding play_reply parsed_in answer_reply
 returns c = let line = c.args.line.now in
     let blank = c.line_room-octets in
     let long = room_of 2048 blank.ensures in
-    let octets = c.parse_line-told.new.1.0 in
+    let octets = c.parse_line-told.new.octets in
     let is = with-room ground_script (length blank.result) line (omega arith) in
     let whole = c.parse_line-told.auto.octets ∙ long in
     let short : length (take c.least-m.result octets) ≤ 2048 = omega (arith, c.least-m.ensures.within, length-take c.least-m.result octets, min-le_left c.least-m.result (length octets)) in

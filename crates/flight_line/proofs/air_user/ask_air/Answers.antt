@@ -36,7 +36,7 @@ returns c = let l = c.least-m in
     let t = c.asked-1 in
     let line = c.args.line.now in
     let long = room_of 2048 c.line_room-octets.ensures in
-    let octets = c.parse_line-told.new.1.0 in
+    let octets = c.parse_line-told.new.octets in
     let is = with-room air_script (length c.line_room-octets.result) line (omega (arith, long)) in
     let whole = c.parse_line-told.auto.octets ∙ long in
     let few : length (take l.result octets) ≤ 2048 = omega (arith, l.ensures.within, length-take l.result octets, min-le_left l.result (length octets)) in
