@@ -10,8 +10,8 @@ returns-then-not-good c = rw (← c.parse_settings-set.ensures, not-true c.parse
 
 pub returns-then-refusal-ne0 : goal.returns-then-refusal-ne0
 unfolding settings_reply open_reply
-returns-then-refusal-ne0 c = rw (← c.parse_settings-set.ensures, not-false c.parse_settings-set.result.good c.if-not-good.false-raw, ← c.«open».ensures, ne_eqb _ 0 c.if-refusal-ne0.true) c.refuse_line-then-refusal-ne0.ensures
+returns-then-refusal-ne0 c = rw (← c.parse_settings-set.ensures, not-false c.parse_settings-set.result.good c.if-not-good.false-raw, ← c.open-o.ensures, ne_eqb _ 0 c.if-refusal-ne0.true) c.refuse_line-then-refusal-ne0.ensures
 
 pub returns : goal.returns
 unfolding settings_reply open_reply
-returns c = rw (← c.parse_settings-set.ensures, not-false c.parse_settings-set.result.good c.if-not-good.false-raw, ← c.«open».ensures, eq-eqb _ 0 c.if-refusal-ne0.false) (record { box_is = refl; text_is = c.put_text-a.ensures; short = lit≤ tt })
+returns c = rw (← c.parse_settings-set.ensures, not-false c.parse_settings-set.result.good c.if-not-good.false-raw, ← c.open-o.ensures, eq-eqb _ 0 c.if-refusal-ne0.false) (record { box_is = refl; text_is = c.put_text-a.ensures; short = lit≤ tt })

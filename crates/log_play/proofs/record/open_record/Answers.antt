@@ -18,4 +18,4 @@ returns-then-not-is_long c = rw (eq-eqb _ 0 c.if-kind-ne0.false, eq-eqb _ 0 c.if
 
 pub returns : goal.returns
 unfolding open_step is_settings
-returns c = rw (eq-eqb _ 0 c.if-kind-ne0.false, eq-eqb _ 0 c.if-seconds-ne0.false, sym c.is_long.ensures ∙ not-false _ c.if-not-is_long.false-raw, c.accept.ensures, c.refuse-a.ensures, c.«open».ensures, c.settings_in.ensures)
+returns c = rw (eq-eqb _ 0 c.if-kind-ne0.false, eq-eqb _ 0 c.if-seconds-ne0.false, sym c.is_long.ensures ∙ not-false _ c.if-not-is_long.false-raw, c.accept.ensures, c.refuse-a.ensures, c.open-o.ensures, c.settings_in.ensures)
