@@ -26,8 +26,8 @@ loop-turns-preserved c = let v = c.loop-turns.invariant in
     let k = c.pull_line-l.auto in
     let d = c.add_line-e.ensures in
     let there = not-false _ c.if-not-l.false in (
-      k.1.1.0 ∙ v.0,
-      k.1.1.1.0 ∙ v.1,
+      k.chunk ∙ v.0,
+      k.line ∙ v.1,
       c.add_line-e.auto.out ∙ v.2,
       λ n b f p. v.3 n b f (plays-line air_bench (rw (v.1, there) at (l.line_is (well-found l.none_failed there))) d.number_is (rw (shown-line c.shown-n.ensures) at d.box_is) p),
     )

@@ -4,4 +4,4 @@ use Rattle.pdu_words.proofs.ways.put_signed.Goals as goal
 
 pub returns : goal.returns
 unfolding signed_text
-returns c = rw (← c.type_size.ensures) (after c.put_sign-a.ensures c.put_decimal.ensures)
+returns c = rw (← c.size_of.ensures) (after c.put_sign-a.ensures c.put_decimal.ensures)
