@@ -5,8 +5,6 @@ use lib.ListN.{length}
 use Rattle.std.proofs.Common.{rules}
 use Rattle.flight_line.proofs.line.under_way.Goals as goal
 
-whole : (c : tie.Start) → length c.args.c.letters ≡ 17
-whole c = search (rules, length-mapped)
-
 pub returns : goal.returns
-returns c = record { is = c.count.ensures; most = rw c.count.ensures (held-most c.args.c (whole c)) }
+returns c = let whole : length c.args.c.letters ≡ 17 = search (rules, length-mapped) in
+    record { is = c.count.ensures; most = rw c.count.ensures (held-most c.args.c whole) }

@@ -18,50 +18,44 @@ loop-at-init c = (omega arith, refl, λ n s d. d)
 pub slice_bounds-add_record-count : goal.slice_bounds-add_record-count
 slice_bounds-add_record-count c = let q = c.loop-at in
     let bl = c.args.block.now in
-    let g = c.f-1.given in
-    let e = sym c.record_at-f.ensures ∙ g.1 in
-    omega (arith, data-place bl q.at g.0.0 g.0.1.0 g.0.1.1.0 g.0.1.1.1.0 g.0.1.1.1.1.0 e)
+    let e = sym c.record_at-f.ensures ∙ c.in-Record.is in
+    omega (arith, data-place bl q.at c.in-Record.kind c.in-Record.seconds c.in-Record.start c.in-Record.len c.in-Record.next e)
 
 pub slice_bounds-add_record-start : goal.slice_bounds-add_record-start
 slice_bounds-add_record-start c = let q = c.loop-at in
     let bl = c.args.block.now in
-    let g = c.f-1.given in
-    let e = sym c.record_at-f.ensures ∙ g.1 in
-    omega (arith, data-place bl q.at g.0.0 g.0.1.0 g.0.1.1.0 g.0.1.1.1.0 g.0.1.1.1.1.0 e)
+    let e = sym c.record_at-f.ensures ∙ c.in-Record.is in
+    omega (arith, data-place bl q.at c.in-Record.kind c.in-Record.seconds c.in-Record.start c.in-Record.len c.in-Record.next e)
 
 pub slice_bounds-add_record-end : goal.slice_bounds-add_record-end
 slice_bounds-add_record-end c = let q = c.loop-at in
     let bl = c.args.block.now in
-    let g = c.f-1.given in
-    let e = sym c.record_at-f.ensures ∙ g.1 in
-    omega (arith, walk-on bl q.at c.requires.0 c.requires.1 g.0.0 g.0.1.0 g.0.1.1.0 g.0.1.1.1.0 g.0.1.1.1.1.0 e, c.requires.0)
+    let e = sym c.record_at-f.ensures ∙ c.in-Record.is in
+    omega (arith, walk-on bl q.at c.requires.0 c.requires.1 c.in-Record.kind c.in-Record.seconds c.in-Record.start c.in-Record.len c.in-Record.next e, c.requires.0)
 
 pub add_record-e-requires : goal.add_record-e-requires
 add_record-e-requires c = let q = c.loop-at in
     let bl = c.args.block.now in
-    let g = c.f-1.given in
-    let e = sym c.record_at-f.ensures ∙ g.1 in
-    (omega (arith, c.turn_page-e.ensures.room, q.invariant.1, c.requires.2), data-few bl q.at c.requires.0 c.requires.1 q.e.number q.e.setup g.0.0 g.0.1.0 g.0.1.1.0 g.0.1.1.1.0 g.0.1.1.1.1.0 e)
+    let e = sym c.record_at-f.ensures ∙ c.in-Record.is in
+    (omega (arith, c.turn_page-e.ensures.room, q.invariant.1, c.requires.2), data-few bl q.at c.requires.0 c.requires.1 q.e.number q.e.setup c.in-Record.kind c.in-Record.seconds c.in-Record.start c.in-Record.len c.in-Record.next e)
 
 pub loop-at-smaller : goal.loop-at-smaller
 loop-at-smaller c = let q = c.loop-at in
     let bl = c.args.block.now in
-    let g = c.f-1.given in
-    let e = sym c.record_at-f.ensures ∙ g.1 in
-    omega (arith, walk-on bl q.at c.requires.0 c.requires.1 g.0.0 g.0.1.0 g.0.1.1.0 g.0.1.1.1.0 g.0.1.1.1.1.0 e)
+    let e = sym c.record_at-f.ensures ∙ c.in-Record.is in
+    omega (arith, walk-on bl q.at c.requires.0 c.requires.1 c.in-Record.kind c.in-Record.seconds c.in-Record.start c.in-Record.len c.in-Record.next e)
 
 pub loop-at-preserved : goal.loop-at-preserved
 unfolding record_reply
 loop-at-preserved c = let q = c.loop-at in
     let bl = c.args.block.now in
-    let g = c.f-1.given in
-    let e = sym c.record_at-f.ensures ∙ g.1 in
+    let e = sym c.record_at-f.ensures ∙ c.in-Record.is in
     let t = c.turn_page-e.ensures in
     let a = c.add_record-e.ensures in
-    let r = rec g.0.0 g.0.1.0 (take (g.0.1.1.1.1.0 - g.0.1.1.0) (drop g.0.1.1.0 bl)) in (
-      (walk-on bl q.at c.requires.0 c.requires.1 g.0.0 g.0.1.0 g.0.1.1.0 g.0.1.1.1.0 g.0.1.1.1.1.0 e).1,
+    let r = rec c.in-Record.kind c.in-Record.seconds (take (c.in-Record.next - c.in-Record.start) (drop c.in-Record.start bl)) in (
+      (walk-on bl q.at c.requires.0 c.requires.1 c.in-Record.kind c.in-Record.seconds c.in-Record.start c.in-Record.len c.in-Record.next e).1,
       c.add_record-e.auto.out ∙ q.invariant.1,
-      λ n s d. q.invariant.2 n s (shows-record bl q.at c.requires.0 c.requires.1 q.e.number q.e.setup g.0.0 g.0.1.0 g.0.1.1.0 g.0.1.1.1.0 g.0.1.1.1.1.0 e _ n _ s (a.number_is ∙ ap bumped t.number_is) (a.box_is ∙ ap (λ (u : Setup). (stepped_by u r).setup) t.box_is) d),
+      λ n s d. q.invariant.2 n s (shows-record bl q.at c.requires.0 c.requires.1 q.e.number q.e.setup c.in-Record.kind c.in-Record.seconds c.in-Record.start c.in-Record.len c.in-Record.next e _ n _ s (a.number_is ∙ ap bumped t.number_is) (a.box_is ∙ ap (λ (u : Setup). (stepped_by u r).setup) t.box_is) d),
     )
 
 pub returns-in-End : goal.returns-in-End
