@@ -11,9 +11,12 @@ if [ -z "$program" ] || [ ! -f "$here/crates/$program/src/main.rt" ]; then
     exit 2
 fi
 [ -n "${2-}" ] && { exec <"$2" || exit 1; }
-if [ ! -x "$here/target/bin/$program" ]; then
-    echo "ads: proving and building $program, a line for each crate that is done" >&2
-    status=$( (cd "$here" && rt check "$program" </dev/null 2>&1; echo "status $?") | sed -n 's/^status //p; s/^rt: /ads: /w /dev/stderr')
-    [ "$status" = 0 ] || exit 1
+if [ ! -x "$here/crates/$program/out/$program" ]; then
+    echo "ads: proving and building $program, a line for each crate that is not yet proved" >&2
+    log=$(mktemp) || exit 1
+    # rt runs it too, on nothing
+    (cd "$here/crates/$program" && rt run </dev/null 2>&1 >/dev/null) | tee "$log" | sed -n 's/^rt: chose --jobs [0-9]* for /ads: /p' >&2
+    [ -x "$here/crates/$program/out/$program" ] || { cat "$log" >&2; rm -f "$log"; exit 1; }
+    rm -f "$log"
 fi
 exec "$here/tests/program" "$program"

@@ -1,5 +1,5 @@
 /* adsc.h: the ground side of ADS (ICAO Doc 9705) for a host in C: the contracts of one air-ground link, its timers, and the PDUs of both sides.
- * C99, and C++. The functions are in libadschost.a (rt staticlib adschost), which is for x86-64 and needs C's memory functions only.
+ * C99, and C++. The functions are in libadschost.a (examples/host/archive makes it), which is for x86-64 and needs C's memory functions only.
  *
  * How a host works with it:
  *
