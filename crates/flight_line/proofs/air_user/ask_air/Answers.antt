@@ -33,12 +33,11 @@ slice_bounds-put_answer-end c = sym (length-take-le _ _ (omega (arith, c.least-m
 pub returns : goal.returns
 unfolding air_asked air_said parsed_in parsed_with
 returns c = let l = c.least-m in
-    let t = c.asked-1 in
     let line = c.args.line.now in
     let long = room_of 2048 c.line_room-octets.ensures in
     let octets = c.parse_line-told.new.octets in
     let is = with-room air_script (length c.line_room-octets.result) line (omega (arith, long)) in
     let whole = c.parse_line-told.auto.octets ∙ long in
     let few : length (take l.result octets) ≤ 2048 = omega (arith, l.ensures.within, length-take l.result octets, min-le_left l.result (length octets)) in
-    rw (← is, ← c.parse_line-told.ensures, t.given.1, ← take-least t.given.0.1.0 2048 octets whole, ← l.ensures.is, ← c.turn_air-t.ensures)
+    rw (← is, ← c.parse_line-told.ensures, c.in-Makes.is, ← take-least c.in-Makes.n 2048 octets whole, ← l.ensures.is, ← c.turn_air-t.ensures)
     (record { world_is = refl; text_is = c.put_answer-a.ensures.text_is; short = le_trans (c.put_answer-a.ensures.short few) (lit≤ tt) })

@@ -7,4 +7,4 @@ use Rattle.host_log.proofs.recording.is_open.Goals as goal
 
 pub returns : goal.returns
 unfolding is_open
-returns c = c.fits2.ensures ∙ ap (λ (t : Tape). fitting (tape t.number t.used) (length c.args.block.now)) c.tape_in-t.ensures
+returns c = c.fits.ensures ∙ ap (λ (t : Tape). fitting (tape t.number t.used) (length c.args.block.now)) c.tape_in-t.ensures
