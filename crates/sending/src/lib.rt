@@ -20,6 +20,7 @@ pub const USER_ABORT: u8 = 5;
 
 // What is under way, and the number of the dialogue of which more is sent.
 #[derive(Drop)]
+#[derive(Clone, Copy)]
 pub struct Way {
     pub held: Channel,
     pub number: u64,
