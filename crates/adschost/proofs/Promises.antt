@@ -69,8 +69,8 @@ report-holds r h e =
     let s : ReportSmall r = rw e at (report-small r h) in
     record {
       level = omega (arith, s.level);
-      speed = omega (arith, s.ground.0);
-      rate = omega (arith, s.ground.1);
+      speed = omega (arith, s.over_ground.0);
+      rate = omega (arith, s.over_ground.1);
       climb = omega (arith, s.air);
       temperature = omega (arith, s.weather);
     }
@@ -78,7 +78,7 @@ report-holds r h e =
 emergency-holds : (r : EmergencyReport) → emergency_report_c.chk r ≡ 0 → emergency_report_c.norm r ≡ r → EmergencyHolds r
 emergency-holds r h e =
     let s : EmergencySmall r = rw e at (emergency-small r h) in
-    record { level = omega (arith, s.level); speed = omega (arith, s.ground.0); rate = omega (arith, s.ground.1) }
+    record { level = omega (arith, s.level); speed = omega (arith, s.over_ground.0); rate = omega (arith, s.over_ground.1) }
 
 event-chk : (a : EventReport) → event_report_c.chk a ≡ 0 → report_c.chk a.report ≡ 0
 unfolding event_report_c via dep field
