@@ -1,4 +1,4 @@
-"""header.py [--self-test]: include/adsc.h against what crates/adschost exports: names, parameters in their order, widths, what is const, sizes, numbers.
+"""header.py [--self-test]: include/adsc.h against what crates/adschost_c exports: names, parameters in their order, widths, what is const, sizes, numbers.
 
 A C compiler takes a wrong declaration without a word: the linker sees names alone. --self-test alters the header in memory, every declaration and
 every number that is compared, each alone: each must be found.
@@ -9,7 +9,7 @@ import sys
 
 ROOT = pathlib.Path(__file__).resolve().parent.parent
 HEADER = ROOT / "include/adsc.h"
-EXPORTS = ROOT / "crates/adschost/src"
+EXPORTS = ROOT / "crates/adschost_c/src"
 
 # A type of Rattle as C parameters: a slice is a pointer and a length.
 WIDTHS = {"u8": "uint8_t", "u32": "uint32_t", "usize": "size_t"}
@@ -39,7 +39,7 @@ CONSTANTS = {
     "pdu_events/src/elements.rt": {f"ADSC_ON_{name}": name for name in (
         "LATERAL_CHANGE", "RATE_CHANGE", "LEVEL_RANGE", "WAYPOINT_CHANGE", "AIR_SPEED_CHANGE", "GROUND_SPEED_CHANGE", "HEADING_CHANGE", "PROFILE_CHANGE",
         "MERIT_CHANGE", "TRACK_CHANGE", "LEVEL_CHANGE")},
-    "log/src/lib.rt": {"ADSC_BLOCK_OCTETS": "BLOCK", "ADSC_PAYLOAD_MOST": "ROOM", "ADSC_KEPT_MOST": "KEPT", "ADSC_BLOCKS_MOST": "BLOCKS"},
+    "log_blocks/src/lib.rt": {"ADSC_BLOCK_OCTETS": "BLOCK", "ADSC_PAYLOAD_MOST": "ROOM", "ADSC_KEPT_MOST": "KEPT", "ADSC_BLOCKS_MOST": "BLOCKS"},
     "log_play/src/record.rt": {"ADSC_SETTINGS_OCTETS": "SETTINGS"},
     "host_record/src/record.rt": {"ADSC_LINK_OCTETS": "RECORD"},
     "host_record/src/answer.rt": {"ADSC_ANSWER_OCTETS": "ANSWER"},
@@ -82,10 +82,10 @@ KINDS = {
 ARRAYS = [
     ("host_numbers/src/uplink.rt", "flat_periodic", "ADSC_GROUND_NUMBERS", {
         "ADSC_G_KIND": "6", "ADSC_G_WHAT": "a.elements", "ADSC_G_SCALE": "scale", "ADSC_G_INTERVAL": "times", "ADSC_G_ADDRESS": "a.address",
-        "ADSC_G_PROFILE": "a.profile", "ADSC_G_GROUND_VECTOR": "a.ground", "ADSC_G_AIR_VECTOR": "a.air", "ADSC_G_WEATHER": "a.weather"}),
+        "ADSC_G_PROFILE": "a.profile", "ADSC_G_GROUND_VECTOR": "a.over_ground", "ADSC_G_AIR_VECTOR": "a.air", "ADSC_G_WEATHER": "a.weather"}),
     ("host_numbers/src/changes.rt", "flat_changes", "ADSC_GROUND_NUMBERS", {
         "ADSC_G_WHAT": "a.elements", "ADSC_G_LATERAL": "a.lateral", "ADSC_G_RATE": "climb", "ADSC_G_CEILING": "top", "ADSC_G_FLOOR": "low",
-        "ADSC_G_AIR_SPEED": "air.kind", "ADSC_G_AIR_SPEED_CHANGE": "air.number", "ADSC_G_GROUND_SPEED": "a.ground", "ADSC_G_HEADING": "a.heading",
+        "ADSC_G_AIR_SPEED": "air.kind", "ADSC_G_AIR_SPEED_CHANGE": "air.number", "ADSC_G_GROUND_SPEED": "a.over_ground", "ADSC_G_HEADING": "a.heading",
         "ADSC_G_EXTENDED_PROFILE": "profile.kind", "ADSC_G_EXTENDED_PROFILE_COUNT": "profile.number", "ADSC_G_TRACK": "a.track", "ADSC_G_LEVEL": "a.level"}),
     ("host_numbers/src/reports.rt", "fix_numbers", None, {
         "ADSC_A_KIND": "kind", "ADSC_A_WHAT": "bit(ack)", "ADSC_A_DETAIL": "event", "ADSC_A_ELEMENTS": "elements", "ADSC_A_SOUTH": "bit(la.minus)",
@@ -131,8 +131,8 @@ def exported():
     found = {}
     for path in sorted(EXPORTS.glob("*.rt")):
         text = path.read_text()
-        functions = re.findall(r'#\[no_mangle\]\s*pub extern "C" fn (\w+)\(([^)]*)\)\s*->\s*(\w+)', text)
-        if len(functions) != text.count("#[no_mangle]"):
+        functions = re.findall(r'#\[unsafe\(no_mangle\)\]\s*pub extern "C" fn (\w+)\(([^)]*)\)\s*->\s*(\w+)', text)
+        if len(functions) != text.count("no_mangle"):
             sys.exit(f"{path.relative_to(ROOT)}: an exported function that is not understood here")
         for name, inside, result in functions:
             parts = [part.strip().split(": ") for part in inside.split(",") if part.strip()]
@@ -154,7 +154,7 @@ def numbers_due():
         due += [(name, values[variant], f"{path}, {enum}::{variant}") for name, variant in names.items()]
     for path, function, size, names in ARRAYS:
         body = crate(path).split(f"fn {function}(", 1)[1].split("\n}\n", 1)[0]
-        entries = [entry.strip() for entry in body.rsplit("    [", 1)[1].rsplit("]", 1)[0].split(",") if entry.strip()]
+        entries = ["".join(entry.split()) for entry in body.rsplit("    [", 1)[1].rsplit("]", 1)[0].split(",") if entry.strip()]
         due += [(name, entries.index(entry), f"{path}, {function}") for name, entry in names.items()]
         due += [(size, len(entries), f"{path}, {function}")] if size else []
     for path, names in TEXTS.items():

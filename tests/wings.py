@@ -18,7 +18,7 @@ def crates_of(text):
         if line.startswith("# ") and len(line) < 30:
             wing = wings.setdefault(line[2:].strip(), [])
         elif line and not line.startswith("#"):
-            name, _, rest = line.partition(":")
+            name, _, rest = line.replace(" staticlib:", ":").partition(":")
             wing.append(name)
             names[name] = rest.split()
     return wings, names
@@ -91,7 +91,7 @@ def main(words):
     # a test of the test: with any one dependency left out, the page is another
     for name, rest in crates_of(listed)[1].items():
         for gone in rest:
-            line = "%s: %s" % (name, " ".join(rest))
+            line = next(it for it in listed.splitlines() if re.match(r"%s( staticlib)?:" % name, it))
             less = "%s: %s" % (name, " ".join(n for n in rest if n != gone))
             if put(page, parts(listed.replace(line, less.rstrip()))) == page:
                 print("wings.py does not see that %s no longer names %s" % (name, gone))

@@ -1,5 +1,5 @@
-// The link for a host in C or Rust: include/adsc.h declares what is exported here. Each function answers with 0 or a refusal's number, and a refused one
-// leaves every lent buffer as it was.
+// The link for a host in C or Rust: include/adsc.h declares the functions, and `adschost_c` exports them. Each answers with 0 or a refusal's number, and a refused
+// one leaves every lent buffer as it was.
 #![tactic(auto)]
 
 pub mod blocks;

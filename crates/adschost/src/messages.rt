@@ -18,8 +18,7 @@ use per::pen::Written;
 use refusals::NO_ROOM;
 
 // An aircraft PDU as 40 numbers and the 128 octets of its list.
-#[unsafe(no_mangle)]
-pub extern "C" fn adsc_read_air(octets: &[u8], numbers: &mut [u32], list: &mut [u8]) -> u8
+pub fn adsc_read_air(octets: &[u8], numbers: &mut [u32], list: &mut [u8]) -> u8
     ensures { ShowsAir (air_shown (air_reading (read_pdu air_c octets.now)) numbers.old list.old) result numbers.new list.new }
 {
     let r = decode_air(octets);
@@ -44,8 +43,7 @@ pub extern "C" fn adsc_read_air(octets: &[u8], numbers: &mut [u32], list: &mut [
 }
 
 // A ground PDU as numbers.
-#[unsafe(no_mangle)]
-pub extern "C" fn adsc_read_ground(octets: &[u8], numbers: &mut [u32]) -> u8
+pub fn adsc_read_ground(octets: &[u8], numbers: &mut [u32]) -> u8
     ensures { ShowsGround (ground_shown (ground_reading (read_pdu ground_c octets.now)) numbers.old) result numbers.new }
 {
     let answer = decode_ground(octets);
@@ -75,13 +73,7 @@ fn tell(w: Written, written: &mut usize) -> u8
     }
 }
 
-#[unsafe(no_mangle)]
-pub extern "C" fn adsc_write_air(
-    numbers: &[u32],
-    list: &[u8],
-    out: &mut [u8],
-    written: &mut usize,
-) -> u8
+pub fn adsc_write_air(numbers: &[u32], list: &[u8], out: &mut [u8], written: &mut usize) -> u8
     ensures { WritesFlat (write_pdu air_c (air_at numbers.now list.now) out.old) written.old result out.new written.new }
 {
     let a = air_at(numbers, list);
@@ -89,8 +81,7 @@ pub extern "C" fn adsc_write_air(
     tell(w, written)
 }
 
-#[unsafe(no_mangle)]
-pub extern "C" fn adsc_write_ground(numbers: &[u32], out: &mut [u8], written: &mut usize) -> u8
+pub fn adsc_write_ground(numbers: &[u32], out: &mut [u8], written: &mut usize) -> u8
     ensures { WritesFlat (write_pdu ground_c (ground_at numbers.now) out.old) written.old result out.new written.new }
 {
     let g = ground_at(numbers);
