@@ -10,13 +10,13 @@ returns-then-not-good c = let a = c.args in
 pub returns-then-o-ne0 : goal.returns-then-o-ne0
 returns-then-o-ne0 c = let a = c.args in
     let s = c.parse_settings-set in
-    let o = c.«open» in
+    let o = c.open-o in
     hears-as _ _ (unopened-heard a.b a.tail.now s.result s.ensures (not-false _ c.if-not-good.false-raw) o.result o.ensures c.if-o-ne0.true)
     (c.nothing-then-o-ne0.ensures _)
 
 pub returns : goal.returns
 returns c = let a = c.args in
     let s = c.parse_settings-set in
-    let o = c.«open» in
+    let o = c.open-o in
     opened-hears a.b a.tail.now s.result s.ensures (not-false _ c.if-not-good.false-raw) o.result o.ensures c.if-o-ne0.false _ _
     c.put_settings-len.ensures

@@ -18,4 +18,4 @@ pub loop-turns-preserved : goal.loop-turns-preserved
 loop-turns-preserved c = let v = c.loop-turns.invariant in
     let l = c.pull_line-l.auto in
     let a = c.add_line-e.auto in
-    (l.1.1.0 ∙ v.0, l.1.1.1.0 ∙ v.1, a.1.1.0 ∙ v.2, a.1.1.1.0 ∙ v.3)
+    (l.chunk ∙ v.0, l.line ∙ v.1, a.block ∙ v.2, a.out ∙ v.3)
