@@ -32,7 +32,11 @@ fn hear_both(w: World, g: ground::call::Call, a: air::call::Call) -> Both
     let world = u.world;
     let ground = t.said;
     let air = u.said;
-    Both { world, ground_end: ground, air }
+    Both {
+        world,
+        ground_end: ground,
+        air,
+    }
 }
 
 fn tell_both(b: Both, out: &mut [u8], at: usize) -> Flown

@@ -56,8 +56,27 @@ fn flat_periodic(a: Periodic) -> [u32; G_NUMBERS]
     let scale = scale_of(interval);
     let times = times_of(interval);
     [
-        6, a.elements, scale, times, a.address, a.profile, a.over_ground, a.air, a.weather, 0, 0, 0, 0,
-        0, 0, 0, 0, 0, 0, 0, 0,
+        6,
+        a.elements,
+        scale,
+        times,
+        a.address,
+        a.profile,
+        a.over_ground,
+        a.air,
+        a.weather,
+        0,
+        0,
+        0,
+        0,
+        0,
+        0,
+        0,
+        0,
+        0,
+        0,
+        0,
+        0,
     ]
 }
 

@@ -37,11 +37,11 @@ show_block-shown-requires c = let q = c.loop-k in
 
 pub loop-k-preserved : goal.loop-k-preserved
 loop-k-preserved c = let v = c.loop-k.invariant in (
-      c.pull_block-p.auto.block ∙ v.0,
-      c.show_block-shown.auto.out ∙ v.1,
-      omega arith,
-      λ o f d. v.3 o f (ends-block _ _ _ _ _ c.play_block-b.ensures c.if-refusal-ne0.false _ _ o f c.show_block-shown.ensures d),
-    )
+  c.pull_block-p.auto.block ∙ v.0,
+  c.show_block-shown.auto.out ∙ v.1,
+  omega arith,
+  λ o f d. v.3 o f (ends-block _ _ _ _ _ c.play_block-b.ensures c.if-refusal-ne0.false _ _ o f c.show_block-shown.ensures d),
+)
 
 pub returns : goal.returns
 returns c = c.loop-k.invariant.3 _ _ (ends-lost c.cut_off-2.ensures)
