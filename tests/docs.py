@@ -14,7 +14,7 @@ def faults(page, text):
         if not (ROOT / "crates" / m[1]).exists():
             yield "%s: there is no crates/%s" % (page, m[1])
     for m in OTHER.finditer(text):
-        if not (ROOT / m[1]).exists():
+        if "/out/" not in m[1] and not (ROOT / m[1]).exists():
             yield "%s: there is no %s" % (page, m[1])
     for m in NAMED.finditer(text):
         path = ROOT / "crates" / m[2]
