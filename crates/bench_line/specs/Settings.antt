@@ -2,7 +2,6 @@
 use Rattle.std.specs.Prelude.{false, List, ℕ, zero, suc, ◌+◌, eqb, length, drop, set, replicate}
 use Rattle.text.specs.Text.{pick}
 use Rattle.text.specs.Numbers.{step_of}
-use Rattle.text.specs.declared.digits.Stepped.{Stepped}
 use Rattle.link.specs.Names.{timers}
 use Rattle.bench_line.specs.declared.settings.Settings.{Settings}
 
