@@ -1,6 +1,5 @@
 use mathlib.Core.Path.{refl, ◌∙◌}
 use native.Mathlib.Omega.{arith}
-use mathlib.Core.Bool.{true}
 use borrow.Author.Tests.{not-true, not-false}
 use Rattle.air_bench.specs.Replies.{air_bench}
 use Rattle.script.proofs.Playing.{plays-none, plays-failed, plays-line, well-found, shown-line}

@@ -1,5 +1,4 @@
 use mathlib.Core.Path.{refl}
-use Prim.Native.Nat.{◌-◌, ◌≤◌}
 use Rattle.text.proofs.Lengths.{refused-length}
 use native.Mathlib.Nat.{le_trans}
 use lib.Dec.{lit≤}

@@ -1,6 +1,5 @@
 use borrow.Author.Tests.{eq-eqb, ne_eqb}
 use mathlib.Core.Path.{refl}
-use Prim.Native.Nat.{◌≤◌}
 use lib.Dec.{lit≤}
 use Rattle.air_bench.specs.Replies.{open_reply, setting_reply}
 use Rattle.air_bench.proofs.reply.set_line.Goals as goal

@@ -1,6 +1,5 @@
 use mathlib.Core.Path.{refl}
 use lib.Dec.{lit≤}
-use Prim.Native.Nat.{◌-◌}
 use Rattle.air_bench.specs.Replies.{begun}
 use Rattle.air_bench.proofs.trace.begin.Goals as goal
 
