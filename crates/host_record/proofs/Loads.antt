@@ -3,7 +3,7 @@ use Prim.Native.Nat.{ℕ, zero, suc, ◌+◌, ◌*◌, ◌≤◌, ◌<◌}
 use mathlib.Core.Path.{◌≡◌, refl, ap, ◌∙◌}
 use mathlib.Core.List.{List, [], ◌∷◌}
 use native.Mathlib.Omega.{arith}
-use lib.ListN.{length, get_or, set, take, drop, replicate}
+use lib.ListN.{get_or, set, take, drop, replicate}
 use lib.Seq.{sets, get_or-take, get_or-drop}
 use Rattle.link.specs.Names.{timers}
 use Rattle.octets.specs.Octets.{word_at, words}

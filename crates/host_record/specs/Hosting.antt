@@ -1,5 +1,5 @@
 -- Calls on a record that the host keeps as octets. "link and lent octets stay" where a call is refused.
-use Rattle.std.specs.Prelude.{◌≡◌, List, [], ◌∷◌, ℕ, eqb, ltb, length, get_or, replicate}
+use Rattle.std.specs.Prelude.{◌≡◌, List, [], ◌∷◌, ℕ, eqb, ltb, length, replicate}
 use Rattle.std.proofs.lemmas.List.Edits.{sets}
 use Rattle.link.specs.Tests.{pick}
 use Rattle.link.specs.Names.{timers}
