@@ -4,7 +4,7 @@ use mathlib.Core.Path.{◌≡◌, refl, ap, ◌∙◌}
 use mathlib.Core.Bool.{Bool, true, false, cond}
 use native.Mathlib.Omega.{arith}
 use lib.Dec.{ltb}
-use lib.IntN.{ℤ, pos, negsuc, sub_ℕ, ◌-ℤ◌}
+use lib.IntN.{pos, negsuc, sub_ℕ, ◌-ℤ◌}
 use lib.Signed.{mag}
 use borrow.Author.Tests.{le-ltb}
 use mir.Syntax.{w32}

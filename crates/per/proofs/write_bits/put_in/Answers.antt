@@ -3,7 +3,6 @@ use native.Mathlib.Omega.{arith}
 use Rattle.per.proofs.Parts.{merges}
 use Rattle.per.proofs.Puts.{put_in, put-past}
 use lib.ListN.{get_or}
-use Rattle.std.proofs.Common.{rules}
 use Rattle.per.proofs.write_bits.put_in.Goals as goal
 
 pub nonzero_div-old : goal.nonzero_div-old
