@@ -14,7 +14,7 @@ use Rattle.channel.specs.declared.Letter.{Letter}
 use Rattle.world.specs.World.{World, world_of}
 use Rattle.world.specs.GroundTurns as to_ground
 use Rattle.world.specs.AirTurns as to_air
-use Rattle.delivery.specs.Hearing.{came, Carried, Carries, came_to, ground_said, ground_carried, air_said, air_carried, comes}
+use Rattle.delivery.specs.Hearing.{came, Carries, came_to, ground_said, ground_carried, air_said, air_carried, comes}
 use Rattle.delivery.specs.Deliveries.{carried_one, carried, LETTER-MOST, Flies}
 use Rattle.delivery.specs.declared.hear.Carried as code
 
