@@ -11,7 +11,7 @@ use borrow.Author.Tests.{eq-eqb, eqb-true, eqb-false, le-leb}
 use Rattle.link.specs.Tests.{both, either, below}
 use Rattle.link.specs.Names.{timers, EC, PC, LI, DATA-REQUEST}
 use Rattle.link.specs.Watch.{runs, setting_ok, idle, li_is}
-use Rattle.link.specs.Acts.{acts, pushed_all}
+use Rattle.link.specs.Acts.{pushed_all}
 use Rattle.link.specs.Clock.{not_due}
 use Rattle.link.specs.Step.{acts_of, performed, begun, added, stopped, rest_at}
 use Rattle.link.specs.declared.moves.Move.{Move}

@@ -10,7 +10,6 @@ use lib.ListN.{length, get_or}
 use Rattle.link.specs.Tests.{pick, below}
 use Rattle.link.specs.Names.{timers, PC}
 use Rattle.link.specs.Watch.{setting_ok}
-use Rattle.link.specs.Acts.{acts}
 use Rattle.link.specs.Step.{performed, begun, added, stopped}
 use Rattle.link.proofs.Laws.{no_true, pushed_most, all_most, none-most}
 use Rattle.sides.specs.Runs.{after}
