@@ -1,5 +1,5 @@
 -- "Of longer data the first 129 octets are kept, which get the same answer" (02, L6). Assumes nothing.
-use Prim.Native.Nat.{ℕ, ◌≤◌, ◌<◌}
+use Prim.Native.Nat.{ℕ}
 use mathlib.Core.Path.{◌≡◌, refl, sym, ap, ◌∙◌}
 use mathlib.Core.Bool.{Bool, true, false}
 use mathlib.Core.List.{List, []}
@@ -14,19 +14,17 @@ use Rattle.pdu.specs.DownlinkTable.{air_c}
 use Rattle.pdu.specs.UplinkTable.{ground_c}
 use Rattle.link.specs.Tests.{both, pick}
 use Rattle.ground_answer.specs.declared.record.Link.{Link}
-use Rattle.ground_answer.specs.declared.answer.Answer.{Answer}
 use Rattle.ground.specs.Arrivals.{confirmed, arrived}
 use Rattle.ground.specs.Endings.{air_aborted}
 use Rattle.ground.specs.Runs.{answered}
 use Rattle.ground.specs.declared.call.Call.{Call}
 use Rattle.ground.specs.declared.call.Call.TheVariants.{Request, UserAbort, Elapse, StartConfirm, StartRejected, Data, EndConfirm, PeerAbort, AirAbort, Down}
-use Rattle.script.specs.Fields.{HEX, ALONE, NUMBER, Field, garbled, holds, counts}
+use Rattle.script.specs.Fields.{Field, garbled, holds, counts}
 use Rattle.script.specs.Lines.{Parsed, unread, makes, shapes_of, call_of}
 use Rattle.bench_line.specs.Words.{ground_words}
 use Rattle.bench_line.specs.Lines.{ground_script, request_in, octets_call}
 use Rattle.bench.specs.declared.reply.Setup.{Setup}
 use Rattle.log_blocks.specs.Record.{Rec, rec, noted}
-use Rattle.log_blocks.specs.Play.{Step}
 use Rattle.log_play.specs.Steps.{field_in, word_of, call_in, call_step, accepted, settings_long, is_settings, open_step, step_of}
 
 -- what is longer than 128 octets is refused before any bit of it is read, and so is what is kept of it

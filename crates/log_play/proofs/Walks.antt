@@ -17,7 +17,6 @@ use Rattle.log_blocks.specs.Log.{Read, got, bad, One, one, none, cut, onto, then
 use Rattle.log_blocks.specs.Record.{Rec, rec, KEPT, rec_first, form_one}
 use Rattle.log_blocks.specs.Play.{Step, went, refused, Trace, behind, stepped, with_records, play}
 use Rattle.log_blocks.specs.Places.{end_of, found_at, from}
-use Rattle.log_blocks.specs.declared.Found.{Found}
 use Rattle.log_blocks.specs.declared.Found.TheVariants.{Record, End, Unreadable}
 use Rattle.log_blocks.proofs.Walks.{walk_end, walk-unreadable, walk_more, unread, all_read}
 use Rattle.log_play.specs.Steps.{step_of, came_with}

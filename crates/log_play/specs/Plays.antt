@@ -1,5 +1,5 @@
 -- Playing the flight log block by block (02, L6): "block by block in this order". A block is judged wholly before anything of it counts.
-use Rattle.std.specs.Prelude.{true, false, List, [], ◌∷◌, ℕ, ◌+◌, length, replicate}
+use Rattle.std.specs.Prelude.{true, false, List, ℕ, length, replicate}
 use Rattle.link.specs.Names.{timers}
 use Rattle.ground_answer.specs.declared.answer.Answer.{Answer}
 use Rattle.ground_answer.specs.Answers.{refusal}
