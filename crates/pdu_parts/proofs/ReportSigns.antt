@@ -9,7 +9,7 @@ use lib.IntN.{ℤ, pos, negsuc}
 use lib.Signed.{mag}
 use Rattle.per.specs.Codec.{first}
 use Rattle.per.specs.Field.{raised_chk}
-use Rattle.per.specs.Formats.{field, dep, via, only, absent, when, has, pair, mask, ext, num, signed}
+use Rattle.per.specs.Formats.{field, dep, via, only, absent, when, has, pair, mask, signed}
 use Rattle.per.specs.declared.cursor.Signed.{Signed}
 use Rattle.per.specs.laws.Codec.{first-0, first-1, unless-true}
 use Rattle.pdu_parts.specs.declared.position.Position.{Position}

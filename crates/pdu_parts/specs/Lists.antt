@@ -1,5 +1,5 @@
 -- Lists in arrays: the entries that are counted, and zeros.
-use Rattle.std.specs.Prelude.{ℕ, ◌+◌, ◌-◌, ◌*◌, ◌≡◌, refl, Bool, true, false, List, ◌++◌, length, take, replicate}
+use Rattle.std.specs.Prelude.{ℕ, ◌-◌, ◌*◌, ◌≡◌, refl, Bool, true, false, List, ◌++◌, length, take, replicate}
 use Rattle.std.proofs.Common.{ap, take_at}
 use Rattle.per.specs.Codec.{Codec}
 use Rattle.per.specs.Formats.{dep, field, via, num, ext, count, vec, vec_length, list16}

@@ -1,5 +1,4 @@
 use mathlib.Core.Path.{◌≡◌}
-use Prim.Native.Nat.{◌-◌}
 use native.Mathlib.Omega.{arith}
 use Rattle.pdu_parts.proofs.ListLaws.{filled_none, filled_more}
 use Rattle.pdu_parts.proofs.lists.read_items.Goals as goal
