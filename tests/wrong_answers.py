@@ -25,6 +25,7 @@ What a sheet came to is kept in .cache/ads-wrong-answers of the user, by the sum
 Exit status 1 where there is a fault.
 """
 import concurrent.futures
+import contextlib
 import difflib
 import hashlib
 import json
@@ -164,7 +165,7 @@ class Sheets:
         self.repository, self.anew, self.at, self.jobs = kit.Repository(root), anew, at, jobs or processes()
         self.edits = [(c, e) for c in self.repository.crates.values() for e in sorted((c.folder / "must-fail").glob("*.edit"))
                       if not wanted or c.name in wanted or "%s/%s" % (c.name, e.stem) in wanted]
-        self.sums, self.seeds, self.locks = {}, {}, {c.name: threading.Lock() for c, _ in self.edits}
+        self.sums, self.seeds, self.listings, self.locks = {}, {}, {}, {c.name: threading.Lock() for c, _ in self.edits}
 
     # what is kept
 
@@ -202,6 +203,7 @@ class Sheets:
         ran = check(crate, {}, seed, seed.with_name(crate.name + "-own"))
         if ran.returncode:
             return None, "as it stands it is not proved: %s" % first(ran.stdout)
+        self.listings[crate.name] = listing(seed)
         return seed, ""
 
     def one(self, crate, edit, answers, seed, room):
@@ -212,6 +214,8 @@ class Sheets:
         try:
             for _ in range(4):
                 ran = check(crate, texts, over, place)
+                if listing(seed) != self.listings[crate.name]:
+                    raise ValueError("what the crate's own check kept was changed: try again")
                 if ran.returncode == 0:
                     return Said("")
                 if ran.returncode != 1 or not last(ran.stdout).startswith("logic=not-proved"):
@@ -253,10 +257,11 @@ class Sheets:
         except (OSError, ValueError) as error:
             return {"nothing": str(error)}
         found = {"own": own, "unfit": {p: e for p, e in unfit.items() if p not in own}, "turns": turns}
-        self.at.mkdir(parents=True, exist_ok=True)
-        new = self.at / ("%s.%d" % (file.name, threading.get_ident()))
-        new.write_text(json.dumps(found), encoding="utf-8")
-        new.replace(file)
+        with contextlib.suppress(OSError):
+            self.at.mkdir(parents=True, exist_ok=True)
+            new = self.at / ("%s.%d" % (file.name, threading.get_ident()))
+            new.write_text(json.dumps(found), encoding="utf-8")
+            new.replace(file)
         return found
 
     def all(self):
@@ -297,6 +302,11 @@ def linked(folder, to):
         return shutil.copy2(one, other)
 
     shutil.copytree(folder, to, copy_function=copy)
+
+
+def listing(folder):
+    """What tells whether a file of the folder was changed, lost or added."""
+    return sorted((str(it), it.lstat().st_ino, it.lstat().st_size, it.lstat().st_mtime_ns) for it in folder.rglob("*") if not it.is_dir())
 
 
 def check(crate, texts, over, place):
