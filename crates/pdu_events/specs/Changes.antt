@@ -1,5 +1,5 @@
 -- The message table, the event contract: 02's line for L7, "Carry all eleven event contract elements, with the ranges and inner choices of 002", with 002's module.
-use Rattle.std.specs.Prelude.{refl, Bool, true, cond, ℕ, eqb}
+use Rattle.std.specs.Prelude.{refl, true, cond, ℕ, eqb}
 use Rattle.per.specs.Codec.{Codec}
 use Rattle.per.specs.Formats.{dep, pair, iso, when, num, signed, mask, has, index}
 use Rattle.pdu_parts.specs.Vectors.{none, num_at, rate_at}
