@@ -3,7 +3,6 @@ use Prim.Native.Nat.{ℕ, zero, suc, ◌+◌}
 use mathlib.Core.Path.{◌≡◌, refl, sym, ap, ◌∙◌}
 use mathlib.Core.Bool.{Bool, true, false, false≢true}
 use mathlib.Core.List.{List, [], ◌∷◌}
-use native.Mathlib.Omega.{arith}
 use Rattle.ground_answer.specs.declared.answer.Answer.{Answer}
 use Rattle.bench.specs.declared.reply.Setup.{Setup}
 use Rattle.log_blocks.specs.Block.{judged, payload}
