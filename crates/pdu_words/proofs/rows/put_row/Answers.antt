@@ -1,6 +1,6 @@
 use Rattle.text.proofs.Pages.{after}
 use mathlib.Core.Path.{refl}
-use Rattle.pdu_words.specs.Rows.{is, row_text}
+use Rattle.pdu_words.specs.Rows.{row_text}
 use Rattle.pdu_words.specs.CodeRows.{row_of}
 use Rattle.pdu_words.proofs.rows.put_row.Goals as goal
 

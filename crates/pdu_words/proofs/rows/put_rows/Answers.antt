@@ -1,8 +1,6 @@
 use mathlib.Core.Path.{refl, sym, ◌∙◌}
-use Prim.Native.Nat.{◌-◌}
 use native.Mathlib.Omega.{arith}
 use Rattle.text.specs.Page.{page}
-use Rattle.pdu_words.specs.Rows.{is}
 use Rattle.pdu_words.proofs.Loops.{row_step, row-end}
 use Rattle.pdu_words.proofs.rows.put_rows.Goals as goal
 
