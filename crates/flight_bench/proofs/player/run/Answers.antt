@@ -1,6 +1,5 @@
 use native.Mathlib.Omega.{arith}
 use mathlib.Core.Path.{refl, ◌∙◌}
-use mathlib.Core.Bool.{true}
 use borrow.Author.Tests.{not-true, not-false}
 use Rattle.script.proofs.Playing.{well-found, shown-line}
 use Rattle.flight_bench.proofs.Playing.{plays-none, plays-failed, plays-line}
