@@ -1,8 +1,8 @@
 -- The fields of a line. Assumes nothing.
-use mathlib.Core.Path.{◌≡◌, refl, sym, ap, ◌∙◌}
+use mathlib.Core.Path.{◌≡◌, refl, ap, ◌∙◌}
 use mathlib.Core.Bool.{Bool, true, false}
 use mathlib.Core.List.{List, [], ◌∷◌}
-use Prim.Native.Nat.{ℕ, zero, suc, ◌+◌, ◌-◌, ◌/◌, ◌≤◌}
+use Prim.Native.Nat.{ℕ, suc, ◌+◌, ◌-◌, ◌/◌, ◌≤◌}
 use native.Mathlib.Omega.{arith}
 use borrow.Author.Tests.{leb-true, eq-eqb, ne_eqb}
 use lib.Dec.{leb}
@@ -15,7 +15,7 @@ use Rattle.text.proofs.Trip.{read-front}
 use Rattle.host_lines.specs.declared.fields.Field.{Field}
 use Rattle.host_lines.specs.declared.fields.Numbers.{Numbers}
 use Rattle.host_lines.specs.declared.fields.Asked.{Asked}
-use Rattle.host_lines.specs.Fields.{Held, unheld, held_of, hex_step, no_field, held_by, held_in, Holds, Ask, unread, numbers_in, numbers_asked, field_then, asked, unasked, asked_in, Asks}
+use Rattle.host_lines.specs.Fields.{unheld, held_of, hex_step, no_field, held_by, held_in, Holds, Ask, unread, numbers_in, numbers_asked, field_then, asked, unasked, asked_in, Asks}
 
 -- ---- one field
 -- what was read into a buffer

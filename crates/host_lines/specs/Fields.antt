@@ -5,7 +5,6 @@ use Rattle.text.specs.Text.{pick, hex_good, octets_of, word_end}
 use Rattle.text.specs.Numbers.{step_of}
 use Rattle.text.specs.declared.Hex.{Hex}
 use Rattle.text.specs.declared.Hex.TheVariants as hex
-use Rattle.text.specs.declared.digits.Stepped.{Stepped}
 use Rattle.host_lines.specs.declared.fields.Field.{Field}
 use Rattle.host_lines.specs.declared.fields.Numbers.{Numbers}
 use Rattle.host_lines.specs.declared.fields.Asked.{Asked}
