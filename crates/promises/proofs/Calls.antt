@@ -7,7 +7,6 @@ use lib.ListN.{get_or}
 use borrow.Author.Tests.{eq-eqb}
 use Rattle.per.specs.Pdu.{read_pdu, refused}
 use Rattle.pdu.specs.DownlinkTable.{air_c}
-use Rattle.link.specs.Acts.{acts}
 use Rattle.link.specs.Names.{LI}
 use Rattle.link.proofs.Laws.{T-eq}
 use Rattle.ground_tables.specs.Names.{LI-START, LI-ACTIVE}

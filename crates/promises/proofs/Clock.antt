@@ -10,7 +10,6 @@ use borrow.Author.Tests.{leb-true, le-leb, lt-leb}
 use Rattle.link.specs.Acts.{acts}
 use Rattle.link.specs.Names.{timers}
 use Rattle.link.specs.Tests.{both, below}
-use Rattle.link.specs.Watch.{runs}
 use Rattle.link.specs.Clock.{due, not_due, later}
 use Rattle.link.specs.Step.{begun}
 use Rattle.link.proofs.Laws.{below_all, below_fails, T-eq}

@@ -41,7 +41,7 @@ use Rattle.ground.specs.Runs.{answered}
 use Rattle.ground.specs.declared.call.Call.{Call}
 use Rattle.ground.specs.declared.call.Call.TheVariants.{Request, UserAbort, Elapse, StartConfirm, StartRejected, Data, EndConfirm, PeerAbort, AirAbort, Down}
 use Rattle.promises.specs.Calls.{numbers}
-use Rattle.promises.proofs.Fields.{On, Held, Given, on, ok, on-pick, in_list, on-first, a-number, a-mask, a-full-mask, fields}
+use Rattle.promises.proofs.Fields.{On, Held, Given, on, ok, on-pick, in_list, on-first, a-number, a-mask, fields}
 
 -- ---- the fields of a ground PDU: 5, 10 and 15
 five : On numbers 5
