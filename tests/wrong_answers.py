@@ -169,19 +169,19 @@ class Sheets:
 
     # what is kept
 
-    def sum_of(self, crate):
+    def sum_of(self, crate, seen):
         """A sum of all that a check of the crate reads."""
-        if crate.name not in self.sums:
+        if crate.name not in seen:
             sum = hashlib.sha256(repr((crate.name, crate.is_static, crate.named)).encode())
             for file in kit.files_of(crate.folder):
                 sum.update(repr((str(file.relative_to(crate.folder)), file.read_bytes())).encode())
-            sum.update(repr([self.sum_of(it) for it in crate.libraries()[0]]).encode())
-            self.sums[crate.name] = sum.hexdigest()
-        return self.sums[crate.name]
+            sum.update(repr([self.sum_of(it, seen) for it in crate.libraries()[0]]).encode())
+            seen[crate.name] = sum.hexdigest()
+        return seen[crate.name]
 
-    def kept(self, crate, edit):
+    def kept(self, crate, edit, seen):
         told = [(kit.kit() / name).read_text() for name in ("KIT-ID", "WHAT")]
-        return self.at / hashlib.sha256(repr((FORM, told, self.sum_of(crate), edit.read_bytes())).encode()).hexdigest()
+        return self.at / hashlib.sha256(repr((FORM, told, self.sum_of(crate, seen), edit.read_bytes())).encode()).hexdigest()
 
     # tries
 
@@ -236,7 +236,7 @@ class Sheets:
 
     def tried(self, crate, edit, room):
         """The places at which a sheet is refused, each with an error, and those whose proof does not fit; or why nothing is known."""
-        file = self.kept(crate, edit)
+        file = self.kept(crate, edit, self.sums)
         if not self.anew and file.is_file():
             return json.loads(file.read_text(encoding="utf-8"))
         seed, why = self.seed(crate, room)
@@ -257,7 +257,10 @@ class Sheets:
         except (OSError, ValueError) as error:
             return {"nothing": str(error)}
         found = {"own": own, "unfit": {p: e for p, e in unfit.items() if p not in own}, "turns": turns}
+        # (unless a file was changed meanwhile)
         with contextlib.suppress(OSError):
+            if file != self.kept(crate, edit, {}):
+                return found
             self.at.mkdir(parents=True, exist_ok=True)
             new = self.at / ("%s.%d" % (file.name, threading.get_ident()))
             new.write_text(json.dumps(found), encoding="utf-8")
