@@ -13,7 +13,7 @@ use pdu_parts::acks::{
     NegativeAck, read_negative, read_noncompliance, write_negative, write_noncompliance,
 };
 use pdu_parts::lists::{Listed, no_list};
-use per::cursor::Cursor;
+use per::cursor::{Cursor, Read};
 use per::pen::Pen;
 
 // The numbers are those of 01: the kind of a noncompliance, the request that a positive ack answers, the reason of an abort.
@@ -38,22 +38,16 @@ pub struct AirPdu {
     pub list: Listed,
 }
 
-#[derive(Drop)]
-pub struct AirRead {
-    pub value: AirPdu,
-    pub next: Cursor,
-}
-
 // A PDU without a list.
-fn bare(kind: Air, next: Cursor) -> AirRead
+fn bare(kind: Air, next: Cursor) -> Read<AirPdu>
     ensures { result ≡ record { value = record { kind = kind; list = no_list }; next = next } }
 {
     let list = no_list();
     let value = AirPdu { kind, list };
-    AirRead { value, next }
+    Read { value, next }
 }
 
-fn read_demand(c: Cursor, s: &[u8]) -> AirRead
+fn read_demand(c: Cursor, s: &[u8]) -> Read<AirPdu>
     ensures { Reads (air_alt 1).codec s.now c result.value result.next }
 {
     let x = read_acked(c.extension(s), s);
@@ -61,7 +55,7 @@ fn read_demand(c: Cursor, s: &[u8]) -> AirRead
     bare(Air::Demand(value), x.next)
 }
 
-fn read_emergency(c: Cursor, s: &[u8]) -> AirRead
+fn read_emergency(c: Cursor, s: &[u8]) -> Read<AirPdu>
     ensures { Reads (air_alt 2).codec s.now c result.value result.next }
 {
     let x = read_acked_emergency(c.extension(s), s);
@@ -69,7 +63,7 @@ fn read_emergency(c: Cursor, s: &[u8]) -> AirRead
     bare(Air::Emergency(value), x.next)
 }
 
-fn read_event(c: Cursor, s: &[u8]) -> AirRead
+fn read_event(c: Cursor, s: &[u8]) -> Read<AirPdu>
     ensures { Reads (air_alt 3).codec s.now c result.value result.next }
 {
     let x = read_event_report(c.extension(s), s);
@@ -77,34 +71,33 @@ fn read_event(c: Cursor, s: &[u8]) -> AirRead
     bare(Air::Event(value), x.next)
 }
 
-fn read_refused(c: Cursor, s: &[u8]) -> AirRead
+fn read_refused(c: Cursor, s: &[u8]) -> Read<AirPdu>
     ensures { Reads (air_alt 4).codec s.now c result.value result.next }
 {
     let x = read_negative(c, s);
-    let ack = x.ack;
-    let list = x.list;
+    let (ack, list) = x.value;
     let next = x.next;
     let value = AirPdu {
         kind: Air::Negative(ack),
         list,
     };
-    AirRead { value, next }
+    Read { value, next }
 }
 
-fn read_unmet(c: Cursor, s: &[u8]) -> AirRead
+fn read_unmet(c: Cursor, s: &[u8]) -> Read<AirPdu>
     ensures { Reads (air_alt 5).codec s.now c result.value result.next }
 {
     let x = read_noncompliance(c.extension(s), s);
-    let list = x.list;
+    let (kind, list) = x.value;
     let next = x.next;
     let value = AirPdu {
-        kind: Air::Noncompliance(x.kind),
+        kind: Air::Noncompliance(kind),
         list,
     };
-    AirRead { value, next }
+    Read { value, next }
 }
 
-fn read_periodic(c: Cursor, s: &[u8]) -> AirRead
+fn read_periodic(c: Cursor, s: &[u8]) -> Read<AirPdu>
     ensures { Reads (air_alt 6).codec s.now c result.value result.next }
 {
     let x = read_acked(c.extension(s), s);
@@ -112,21 +105,21 @@ fn read_periodic(c: Cursor, s: &[u8]) -> AirRead
     bare(Air::Periodic(value), x.next)
 }
 
-fn read_positive(c: Cursor, s: &[u8]) -> AirRead
+fn read_positive(c: Cursor, s: &[u8]) -> Read<AirPdu>
     ensures { Reads (air_alt 7).codec s.now c result.value result.next }
 {
     let x = c.extension(s).num(s, 0, 7);
     bare(Air::Positive(x.value), x.next)
 }
 
-fn read_abort(c: Cursor, s: &[u8]) -> AirRead
+fn read_abort(c: Cursor, s: &[u8]) -> Read<AirPdu>
     ensures { Reads (air_alt 8).codec s.now c result.value result.next }
 {
     let x = c.extension(s).num(s, 0, 7);
     bare(Air::Abort(x.value), x.next)
 }
 
-pub fn read_air(c: Cursor, s: &[u8]) -> AirRead
+pub fn read_air(c: Cursor, s: &[u8]) -> Read<AirPdu>
     ensures { Reads air_c s.now c result.value result.next }
 {
     let i = c.extension(s).index(s, 8);

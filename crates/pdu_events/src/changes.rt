@@ -7,7 +7,7 @@ ghost use Rattle.pdu_events.specs.Changes.{level_range_c, no_range, either_c, no
 
 use crate::elements::*;
 use pdu_parts::vectors::{read_signed_if, write_signed_if};
-use per::cursor::{Cursor, Signed, present};
+use per::cursor::{Cursor, Read, Signed, present};
 use per::pen::Pen;
 
 // Tens of feet. A ceiling may stand below its floor.
@@ -43,25 +43,7 @@ pub struct Changes {
     pub level: u32,
 }
 
-#[derive(Drop)]
-pub struct LevelRangeRead {
-    pub value: LevelRange,
-    pub next: Cursor,
-}
-
-#[derive(Drop)]
-pub struct EitherRead {
-    pub value: Either,
-    pub next: Cursor,
-}
-
-#[derive(Drop)]
-pub struct ChangesRead {
-    pub value: Changes,
-    pub next: Cursor,
-}
-
-fn read_range_if(c: Cursor, s: &[u8], present: bool) -> LevelRangeRead
+fn read_range_if(c: Cursor, s: &[u8], present: bool) -> Read<LevelRange>
     ensures { Reads (when present no_range level_range_c) s.now c result.value result.next }
 {
     if present {
@@ -71,12 +53,12 @@ fn read_range_if(c: Cursor, s: &[u8], present: bool) -> LevelRangeRead
         let floor = low.value;
         let value = LevelRange { ceiling, floor };
         let next = low.next;
-        return LevelRangeRead { value, next };
+        return Read { value, next };
     }
     let ceiling = Signed { number: 0 };
     let floor = Signed { number: 0 };
     let value = LevelRange { ceiling, floor };
-    LevelRangeRead { value, next: c }
+    Read { value, next: c }
 }
 
 fn write_range_if(p: Pen, out: &mut [u8; 128], present: bool, a: LevelRange) -> Pen
@@ -98,7 +80,7 @@ fn top_of(kind: u32, first: u32, second: u32) -> u32
     if kind == 0 { first } else { second }
 }
 
-fn read_either_if(c: Cursor, s: &[u8], present: bool, first: u32, second: u32) -> EitherRead
+fn read_either_if(c: Cursor, s: &[u8], present: bool, first: u32, second: u32) -> Read<Either>
     ensures { Reads (when present no_either (either_c first second)) s.now c result.value result.next }
 {
     if present {
@@ -109,10 +91,10 @@ fn read_either_if(c: Cursor, s: &[u8], present: bool, first: u32, second: u32) -
             number: n.value,
         };
         let next = n.next;
-        return EitherRead { value, next };
+        return Read { value, next };
     }
     let value = Either { kind: 0, number: 0 };
-    EitherRead { value, next: c }
+    Read { value, next: c }
 }
 
 fn write_either_if(
@@ -132,7 +114,7 @@ fn write_either_if(
     p
 }
 
-pub fn read_changes(c: Cursor, s: &[u8]) -> ChangesRead
+pub fn read_changes(c: Cursor, s: &[u8]) -> Read<Changes>
     ensures { Reads changes_c s.now c result.value result.next }
 {
     let bits = c.mask(s, EVENT_BITS, EVENT_BITS, true);
@@ -163,7 +145,7 @@ pub fn read_changes(c: Cursor, s: &[u8]) -> ChangesRead
         level: level.value,
     };
     let next = level.next;
-    ChangesRead { value, next }
+    Read { value, next }
 }
 
 pub fn write_changes(p: Pen, out: &mut [u8; 128], a: Changes) -> Pen

@@ -7,7 +7,7 @@ use crate::report::{
     EmergencyReport, Report, read_emergency_report, read_report, write_emergency_report,
     write_report,
 };
-use per::cursor::Cursor;
+use per::cursor::{Cursor, Read};
 use per::pen::Pen;
 
 #[derive(Drop)]
@@ -32,25 +32,7 @@ pub struct EventReport {
     pub report: Report,
 }
 
-#[derive(Drop)]
-pub struct AckedReportRead {
-    pub value: AckedReport,
-    pub next: Cursor,
-}
-
-#[derive(Drop)]
-pub struct AckedEmergencyRead {
-    pub value: AckedEmergency,
-    pub next: Cursor,
-}
-
-#[derive(Drop)]
-pub struct EventReportRead {
-    pub value: EventReport,
-    pub next: Cursor,
-}
-
-pub fn read_acked(c: Cursor, s: &[u8]) -> AckedReportRead
+pub fn read_acked(c: Cursor, s: &[u8]) -> Read<AckedReport>
     ensures { Reads acked_c s.now c result.value result.next }
 {
     let ack = c.flag(s);
@@ -61,7 +43,7 @@ pub fn read_acked(c: Cursor, s: &[u8]) -> AckedReportRead
         report,
     };
     let next = told.next;
-    AckedReportRead { value, next }
+    Read { value, next }
 }
 
 pub fn write_acked(p: Pen, out: &mut [u8; 128], a: AckedReport) -> Pen
@@ -72,7 +54,7 @@ pub fn write_acked(p: Pen, out: &mut [u8; 128], a: AckedReport) -> Pen
     write_report(p, out, report)
 }
 
-pub fn read_acked_emergency(c: Cursor, s: &[u8]) -> AckedEmergencyRead
+pub fn read_acked_emergency(c: Cursor, s: &[u8]) -> Read<AckedEmergency>
     ensures { Reads acked_emergency_c s.now c result.value result.next }
 {
     let ack = c.flag(s);
@@ -83,7 +65,7 @@ pub fn read_acked_emergency(c: Cursor, s: &[u8]) -> AckedEmergencyRead
         report,
     };
     let next = told.next;
-    AckedEmergencyRead { value, next }
+    Read { value, next }
 }
 
 pub fn write_acked_emergency(p: Pen, out: &mut [u8; 128], a: AckedEmergency) -> Pen
@@ -94,7 +76,7 @@ pub fn write_acked_emergency(p: Pen, out: &mut [u8; 128], a: AckedEmergency) -> 
     write_emergency_report(p, out, report)
 }
 
-pub fn read_event_report(c: Cursor, s: &[u8]) -> EventReportRead
+pub fn read_event_report(c: Cursor, s: &[u8]) -> Read<EventReport>
     ensures { Reads event_report_c s.now c result.value result.next }
 {
     let ack = c.flag(s);
@@ -107,7 +89,7 @@ pub fn read_event_report(c: Cursor, s: &[u8]) -> EventReportRead
         report,
     };
     let next = told.next;
-    EventReportRead { value, next }
+    Read { value, next }
 }
 
 pub fn write_event_report(p: Pen, out: &mut [u8; 128], a: EventReport) -> Pen

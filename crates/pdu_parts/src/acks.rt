@@ -6,10 +6,8 @@ ghost use Rattle.per.specs.Writing.{Writes};
 ghost use Rattle.pdu_parts.specs.Lists.{names_c, no_list};
 ghost use Rattle.pdu_parts.specs.AirParts.{negative_c, noncompliance_c, entry_top};
 
-use crate::lists::{
-    Listed, ListedRead, no_list, read_entries, read_names, write_entries, write_names,
-};
-use per::cursor::Cursor;
+use crate::lists::{Listed, no_list, read_entries, read_names, write_entries, write_names};
+use per::cursor::{Cursor, Read};
 use per::pen::Pen;
 
 // The request that is refused, and why.
@@ -20,28 +18,14 @@ pub struct NegativeAck {
     pub reason: u32,
 }
 
-#[derive(Drop)]
-pub struct NegativeRead {
-    pub ack: NegativeAck,
-    pub list: Listed,
-    pub next: Cursor,
-}
-
-#[derive(Drop)]
-pub struct NoncomplianceRead {
-    pub kind: u32,
-    pub list: Listed,
-    pub next: Cursor,
-}
-
-fn read_names_if(c: Cursor, s: &[u8], present: bool) -> ListedRead
+fn read_names_if(c: Cursor, s: &[u8], present: bool) -> Read<Listed>
     ensures { Reads (when present no_list names_c) s.now c result.value result.next }
 {
     if present {
         return read_names(c, s);
     }
     let value = no_list();
-    ListedRead { value, next: c }
+    Read { value, next: c }
 }
 
 fn write_names_if(p: Pen, out: &mut [u8; 128], present: bool, list: Listed) -> Pen
@@ -54,8 +38,8 @@ fn write_names_if(p: Pen, out: &mut [u8; 128], present: bool, list: Listed) -> P
 }
 
 // Reason 2 carries the list of names.
-pub fn read_negative(c: Cursor, s: &[u8]) -> NegativeRead
-    ensures { Reads negative_c s.now c (result.ack, result.list) result.next }
+pub fn read_negative(c: Cursor, s: &[u8]) -> Read<(NegativeAck, Listed)>
+    ensures { Reads negative_c s.now c result.value result.next }
 {
     let request = c.extension(s).num(s, 0, 7);
     let reason = request.next.extension(s).num(s, 0, 3);
@@ -64,9 +48,11 @@ pub fn read_negative(c: Cursor, s: &[u8]) -> NegativeRead
         request: request.value,
         reason: reason.value,
     };
-    let list = names.value;
     let next = names.next;
-    NegativeRead { ack, list, next }
+    Read {
+        value: (ack, names.value),
+        next,
+    }
 }
 
 pub fn write_negative(p: Pen, out: &mut [u8; 128], a: NegativeAck, list: Listed) -> Pen
@@ -90,17 +76,14 @@ fn top_of(kind: u32) -> u8
     }
 }
 
-pub fn read_noncompliance(c: Cursor, s: &[u8]) -> NoncomplianceRead
-    ensures { Reads noncompliance_c s.now c (result.kind, result.list) result.next }
+pub fn read_noncompliance(c: Cursor, s: &[u8]) -> Read<(u32, Listed)>
+    ensures { Reads noncompliance_c s.now c result.value result.next }
 {
     let kind = c.index(s, 2);
-    let k = kind.value;
-    let entries = read_entries(kind.next, s, top_of(k));
-    let list = entries.value;
+    let entries = read_entries(kind.next, s, top_of(kind.value));
     let next = entries.next;
-    NoncomplianceRead {
-        kind: k,
-        list,
+    Read {
+        value: (kind.value, entries.value),
         next,
     }
 }

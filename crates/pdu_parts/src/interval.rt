@@ -4,7 +4,7 @@ ghost use Rattle.per.specs.Reading.{Reads};
 ghost use Rattle.per.specs.Writing.{Writes};
 ghost use Rattle.pdu_parts.specs.Interval.{interval_c, interval_if, is_five};
 
-use per::cursor::Cursor;
+use per::cursor::{Cursor, Read};
 use per::pen::Pen;
 
 #[derive(Drop)]
@@ -14,13 +14,7 @@ pub enum Interval {
     Minutes(u32),
 }
 
-#[derive(Drop)]
-pub struct IntervalRead {
-    pub value: Interval,
-    pub next: Cursor,
-}
-
-pub fn read_interval(c: Cursor, s: &[u8]) -> IntervalRead
+pub fn read_interval(c: Cursor, s: &[u8]) -> Read<Interval>
     ensures { Reads interval_c s.now c result.value result.next }
 {
     let i = c.index(s, 1);
@@ -28,14 +22,14 @@ pub fn read_interval(c: Cursor, s: &[u8]) -> IntervalRead
     if k == 0 {
         let n = i.next.num(s, 1, 59);
         let next = n.next;
-        return IntervalRead {
+        return Read {
             value: Interval::Seconds(n.value),
             next,
         };
     }
     let n = i.next.num(s, 1, 120);
     let next = n.next;
-    IntervalRead {
+    Read {
         value: Interval::Minutes(n.value),
         next,
     }
@@ -67,13 +61,13 @@ pub(crate) fn is_five(i: Interval) -> bool
 }
 
 // The interval of a periodic contract: 5 minutes where none is sent.
-pub(crate) fn read_interval_if(c: Cursor, s: &[u8], present: bool) -> IntervalRead
+pub(crate) fn read_interval_if(c: Cursor, s: &[u8], present: bool) -> Read<Interval>
     ensures { Reads (interval_if present) s.now c result.value result.next }
 {
     if present {
         return read_interval(c, s);
     }
-    IntervalRead {
+    Read {
         value: Interval::Minutes(5),
         next: c,
     }

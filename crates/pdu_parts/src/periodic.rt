@@ -8,7 +8,7 @@ ghost use Rattle.pdu_parts.specs.Ones.{periodic_count};
 
 use crate::elements::*;
 use crate::interval::{Interval, is_five, read_interval_if, write_interval_if};
-use per::cursor::{Cursor, present};
+use per::cursor::{Cursor, Read, present};
 use per::pen::Pen;
 use refusals::OUT_OF_RANGE;
 
@@ -25,13 +25,7 @@ pub struct Periodic {
     pub weather: u32,
 }
 
-#[derive(Drop)]
-pub struct PeriodicRead {
-    pub value: Periodic,
-    pub next: Cursor,
-}
-
-pub fn read_periodic(c: Cursor, s: &[u8]) -> PeriodicRead
+pub fn read_periodic(c: Cursor, s: &[u8]) -> Read<Periodic>
     ensures { Reads periodic_c s.now c result.value result.next }
 {
     let bits = c.mask(s, PERIODIC_BITS, PERIODIC_CARRIED, false);
@@ -53,7 +47,7 @@ pub fn read_periodic(c: Cursor, s: &[u8]) -> PeriodicRead
         weather: weather.value,
     };
     let next = weather.next;
-    PeriodicRead { value, next }
+    Read { value, next }
 }
 
 // The presence bits as they are sent.

@@ -4,7 +4,7 @@ ghost use Rattle.per.specs.Writing.{Writes};
 ghost use Rattle.pdu_parts.specs.Reports.{degrees_top, angle_c, position_c};
 ghost use Rattle.per.specs.Formats.{num};
 
-use per::cursor::{Cursor, Num, Signed};
+use per::cursor::{Cursor, Read, Signed};
 use per::pen::Pen;
 
 // Degrees, minutes and tenth-seconds. Minus zero and plus zero stay different.
@@ -25,20 +25,8 @@ pub struct Position {
     pub level: Signed,
 }
 
-#[derive(Drop)]
-pub struct AngleRead {
-    pub value: Angle,
-    pub next: Cursor,
-}
-
-#[derive(Drop)]
-pub struct PositionRead {
-    pub value: Position,
-    pub next: Cursor,
-}
-
 // Two constant ranges: for one that is handed in the width would be worked out at every call.
-fn read_degrees(c: Cursor, s: &[u8], long: bool) -> Num
+fn read_degrees(c: Cursor, s: &[u8], long: bool) -> Read<u32>
     ensures { Reads (num 0 (degrees_top long)) s.now c result.value result.next }
 {
     if long {
@@ -56,7 +44,7 @@ fn write_degrees(p: Pen, out: &mut [u8; 128], v: u32, long: bool) -> Pen
     p.num(out, v, 0, 90)
 }
 
-fn read_angle(c: Cursor, s: &[u8], long: bool) -> AngleRead
+fn read_angle(c: Cursor, s: &[u8], long: bool) -> Read<Angle>
     ensures { Reads (angle_c (degrees_top long)) s.now c result.value result.next }
 {
     let minus = c.flag(s);
@@ -70,7 +58,7 @@ fn read_angle(c: Cursor, s: &[u8], long: bool) -> AngleRead
         tenths: tenths.value,
     };
     let next = tenths.next;
-    AngleRead { value, next }
+    Read { value, next }
 }
 
 fn write_angle(p: Pen, out: &mut [u8; 128], a: Angle, long: bool) -> Pen
@@ -82,7 +70,7 @@ fn write_angle(p: Pen, out: &mut [u8; 128], a: Angle, long: bool) -> Pen
     p.num(out, a.tenths, 0, 599)
 }
 
-pub fn read_position(c: Cursor, s: &[u8]) -> PositionRead
+pub fn read_position(c: Cursor, s: &[u8]) -> Read<Position>
     ensures { Reads position_c s.now c result.value result.next }
 {
     let lat = read_angle(c, s, false);
@@ -97,7 +85,7 @@ pub fn read_position(c: Cursor, s: &[u8]) -> PositionRead
         level,
     };
     let next = lev.next;
-    PositionRead { value, next }
+    Read { value, next }
 }
 
 pub fn write_position(p: Pen, out: &mut [u8; 128], a: Position) -> Pen

@@ -3,7 +3,7 @@ ghost use Rattle.per.specs.Reading.{Reads};
 ghost use Rattle.per.specs.Writing.{Writes};
 ghost use Rattle.pdu_parts.specs.Reports.{time_c, merit_c};
 
-use per::cursor::Cursor;
+use per::cursor::{Cursor, Read};
 use per::pen::Pen;
 
 // Any day of 1 to 31 goes with any month.
@@ -28,19 +28,7 @@ pub struct Merit {
     pub avoidance: bool,
 }
 
-#[derive(Drop)]
-pub struct TimeRead {
-    pub value: Time,
-    pub next: Cursor,
-}
-
-#[derive(Drop)]
-pub struct MeritRead {
-    pub value: Merit,
-    pub next: Cursor,
-}
-
-pub fn read_time(c: Cursor, s: &[u8]) -> TimeRead
+pub fn read_time(c: Cursor, s: &[u8]) -> Read<Time>
     ensures { Reads time_c s.now c result.value result.next }
 {
     let year = c.num(s, 1996, 2095);
@@ -60,7 +48,7 @@ pub fn read_time(c: Cursor, s: &[u8]) -> TimeRead
         seconds: seconds.value,
     };
     let next = seconds.next;
-    TimeRead { value, next }
+    Read { value, next }
 }
 
 pub fn write_time(p: Pen, out: &mut [u8; 128], a: Time) -> Pen
@@ -75,7 +63,7 @@ pub fn write_time(p: Pen, out: &mut [u8; 128], a: Time) -> Pen
     p.num_if(out, a.has_seconds, a.seconds, 0, 59)
 }
 
-pub fn read_merit(c: Cursor, s: &[u8]) -> MeritRead
+pub fn read_merit(c: Cursor, s: &[u8]) -> Read<Merit>
     ensures { Reads merit_c s.now c result.value result.next }
 {
     let accuracy = c.num(s, 0, 7);
@@ -87,7 +75,7 @@ pub fn read_merit(c: Cursor, s: &[u8]) -> MeritRead
         avoidance: avoidance.value,
     };
     let next = avoidance.next;
-    MeritRead { value, next }
+    Read { value, next }
 }
 
 pub fn write_merit(p: Pen, out: &mut [u8; 128], a: Merit) -> Pen

@@ -6,7 +6,7 @@ ghost use Rattle.per.specs.Writing.{Writes};
 ghost use Rattle.pdu_parts.specs.Vectors.{none, ground_vector_c, no_ground_vector, air_speed_c, no_speed, air_vector_c, no_air_vector, weather_c, no_weather};
 
 use crate::elements::*;
-use per::cursor::{Cursor, Signed, SignedRead, present};
+use per::cursor::{Cursor, Read, Signed, present};
 use per::pen::Pen;
 
 // Track in tenths of a degree, speed in knots, vertical rate in tens of feet a minute.
@@ -49,37 +49,13 @@ pub struct Weather {
     pub turbulence: u32,
 }
 
-#[derive(Drop)]
-pub struct GroundVectorRead {
-    pub value: GroundVector,
-    pub next: Cursor,
-}
-
-#[derive(Drop)]
-pub struct AirSpeedRead {
-    pub value: AirSpeed,
-    pub next: Cursor,
-}
-
-#[derive(Drop)]
-pub struct AirVectorRead {
-    pub value: AirVector,
-    pub next: Cursor,
-}
-
-#[derive(Drop)]
-pub struct WeatherRead {
-    pub value: Weather,
-    pub next: Cursor,
-}
-
-pub fn read_signed_if(c: Cursor, s: &[u8], present: bool, below: u16, top: u16) -> SignedRead
+pub fn read_signed_if(c: Cursor, s: &[u8], present: bool, below: u16, top: u16) -> Read<Signed>
     ensures { Reads (when present none (signed below top)) s.now c result.value result.next }
 {
     if present {
         return c.signed(s, below, top);
     }
-    SignedRead {
+    Read {
         value: Signed { number: 0 },
         next: c,
     }
@@ -101,7 +77,7 @@ pub fn write_signed_if(
     p
 }
 
-fn read_ground_vector(c: Cursor, s: &[u8]) -> GroundVectorRead
+fn read_ground_vector(c: Cursor, s: &[u8]) -> Read<GroundVector>
     ensures { Reads ground_vector_c s.now c result.value result.next }
 {
     let bits = c.mask(s, VECTOR_BITS, VECTOR_BITS, false);
@@ -118,7 +94,7 @@ fn read_ground_vector(c: Cursor, s: &[u8]) -> GroundVectorRead
         rate,
     };
     let next = ra.next;
-    GroundVectorRead { value, next }
+    Read { value, next }
 }
 
 fn write_ground_vector(p: Pen, out: &mut [u8; 128], a: GroundVector) -> Pen
@@ -133,7 +109,7 @@ fn write_ground_vector(p: Pen, out: &mut [u8; 128], a: GroundVector) -> Pen
     write_signed_if(p, out, present(v, GROUND_RATE), rate, 3000, 3000)
 }
 
-pub(crate) fn read_ground_vector_if(c: Cursor, s: &[u8], present: bool) -> GroundVectorRead
+pub(crate) fn read_ground_vector_if(c: Cursor, s: &[u8], present: bool) -> Read<GroundVector>
     ensures { Reads (when present no_ground_vector ground_vector_c) s.now c result.value result.next }
 {
     if present {
@@ -147,7 +123,7 @@ pub(crate) fn read_ground_vector_if(c: Cursor, s: &[u8], present: bool) -> Groun
         speed,
         rate,
     };
-    GroundVectorRead { value, next: c }
+    Read { value, next: c }
 }
 
 pub(crate) fn write_ground_vector_if(
@@ -177,7 +153,7 @@ fn has_ias(kind: u32) -> bool
     kind != 0
 }
 
-fn read_air_speed(c: Cursor, s: &[u8]) -> AirSpeedRead
+fn read_air_speed(c: Cursor, s: &[u8]) -> Read<AirSpeed>
     ensures { Reads air_speed_c s.now c result.value result.next }
 {
     let kind = c.index(s, 2);
@@ -189,7 +165,7 @@ fn read_air_speed(c: Cursor, s: &[u8]) -> AirSpeedRead
         ias: ias.value,
     };
     let next = ias.next;
-    AirSpeedRead { value, next }
+    Read { value, next }
 }
 
 fn write_air_speed(p: Pen, out: &mut [u8; 128], a: AirSpeed) -> Pen
@@ -200,7 +176,7 @@ fn write_air_speed(p: Pen, out: &mut [u8; 128], a: AirSpeed) -> Pen
     p.num_if(out, has_ias(a.kind), a.ias, 0, 1100)
 }
 
-fn read_air_speed_if(c: Cursor, s: &[u8], present: bool) -> AirSpeedRead
+fn read_air_speed_if(c: Cursor, s: &[u8], present: bool) -> Read<AirSpeed>
     ensures { Reads (when present no_speed air_speed_c) s.now c result.value result.next }
 {
     if present {
@@ -211,7 +187,7 @@ fn read_air_speed_if(c: Cursor, s: &[u8], present: bool) -> AirSpeedRead
         mach: 0,
         ias: 0,
     };
-    AirSpeedRead { value, next: c }
+    Read { value, next: c }
 }
 
 fn write_air_speed_if(p: Pen, out: &mut [u8; 128], present: bool, a: AirSpeed) -> Pen
@@ -223,7 +199,7 @@ fn write_air_speed_if(p: Pen, out: &mut [u8; 128], present: bool, a: AirSpeed) -
     p
 }
 
-fn read_air_vector(c: Cursor, s: &[u8]) -> AirVectorRead
+fn read_air_vector(c: Cursor, s: &[u8]) -> Read<AirVector>
     ensures { Reads air_vector_c s.now c result.value result.next }
 {
     let bits = c.mask(s, VECTOR_BITS, VECTOR_BITS, false);
@@ -240,7 +216,7 @@ fn read_air_vector(c: Cursor, s: &[u8]) -> AirVectorRead
         rate,
     };
     let next = ra.next;
-    AirVectorRead { value, next }
+    Read { value, next }
 }
 
 fn write_air_vector(p: Pen, out: &mut [u8; 128], a: AirVector) -> Pen
@@ -255,7 +231,7 @@ fn write_air_vector(p: Pen, out: &mut [u8; 128], a: AirVector) -> Pen
     write_signed_if(p, out, present(v, AIR_RATE), rate, 3000, 3000)
 }
 
-pub(crate) fn read_air_vector_if(c: Cursor, s: &[u8], present: bool) -> AirVectorRead
+pub(crate) fn read_air_vector_if(c: Cursor, s: &[u8], present: bool) -> Read<AirVector>
     ensures { Reads (when present no_air_vector air_vector_c) s.now c result.value result.next }
 {
     if present {
@@ -273,7 +249,7 @@ pub(crate) fn read_air_vector_if(c: Cursor, s: &[u8], present: bool) -> AirVecto
         speed,
         rate,
     };
-    AirVectorRead { value, next: c }
+    Read { value, next: c }
 }
 
 pub(crate) fn write_air_vector_if(p: Pen, out: &mut [u8; 128], present: bool, a: AirVector) -> Pen
@@ -285,7 +261,7 @@ pub(crate) fn write_air_vector_if(p: Pen, out: &mut [u8; 128], present: bool, a:
     p
 }
 
-fn read_weather(c: Cursor, s: &[u8]) -> WeatherRead
+fn read_weather(c: Cursor, s: &[u8]) -> Read<Weather>
     ensures { Reads weather_c s.now c result.value result.next }
 {
     let bits = c.mask(s, WEATHER_BITS, WEATHER_BITS, false);
@@ -303,7 +279,7 @@ fn read_weather(c: Cursor, s: &[u8]) -> WeatherRead
         turbulence: turbulence.value,
     };
     let next = turbulence.next;
-    WeatherRead { value, next }
+    Read { value, next }
 }
 
 fn write_weather(p: Pen, out: &mut [u8; 128], a: Weather) -> Pen
@@ -318,7 +294,7 @@ fn write_weather(p: Pen, out: &mut [u8; 128], a: Weather) -> Pen
     p.num_if(out, present(v, TURBULENCE), a.turbulence, 0, 15)
 }
 
-pub(crate) fn read_weather_if(c: Cursor, s: &[u8], present: bool) -> WeatherRead
+pub(crate) fn read_weather_if(c: Cursor, s: &[u8], present: bool) -> Read<Weather>
     ensures { Reads (when present no_weather weather_c) s.now c result.value result.next }
 {
     if present {
@@ -332,7 +308,7 @@ pub(crate) fn read_weather_if(c: Cursor, s: &[u8], present: bool) -> WeatherRead
         temperature,
         turbulence: 0,
     };
-    WeatherRead { value, next: c }
+    Read { value, next: c }
 }
 
 pub(crate) fn write_weather_if(p: Pen, out: &mut [u8; 128], present: bool, a: Weather) -> Pen

@@ -9,10 +9,10 @@ ghost use Rattle.pdu.specs.DownlinkTable.{air_c};
 ghost use Rattle.pdu.specs.UplinkTable.{ground_c};
 ghost use Rattle.pdu.specs.Answers.{air_reading, ground_reading};
 
-use pdu::downlink::{AirRead, read_air};
-use pdu::uplink::{GroundRead, read_ground};
+use pdu::downlink::{AirPdu, read_air};
+use pdu::uplink::{Ground, read_ground};
 use pdu::{AirReading, GroundAnswer, answer_air, answer_ground};
-use per::cursor::{Cursor, Flag, Num, SignedRead};
+use per::cursor::{Cursor, Read, Signed};
 
 // The octets of a PDU, and the place in them with the first refusal met.
 #[derive(Drop)]
@@ -30,35 +30,35 @@ impl<'a> Reader<'a> {
     }
 
     // A run of w bits: the cursor's answer.
-    pub fn take(self, w: usize) -> Num
+    pub fn take(self, w: usize) -> Read<u32>
         ensures { Reads (run w) self.entry.octets.now self.entry.place result.value result.next }
     {
         self.place.take(self.octets, w)
     }
 
     // A whole number in lo..hi.
-    pub fn num(self, lo: u32, hi: u32) -> Num
+    pub fn num(self, lo: u32, hi: u32) -> Read<u32>
         ensures { Reads (num lo hi) self.entry.octets.now self.entry.place result.value result.next }
     {
         self.place.num(self.octets, lo, hi)
     }
 
     // A whole number in lo..hi that stands there only if it is present.
-    pub fn num_if(self, present: bool, lo: u32, hi: u32) -> Num
+    pub fn num_if(self, present: bool, lo: u32, hi: u32) -> Read<u32>
         ensures { Reads (when present 0 (num lo hi)) self.entry.octets.now self.entry.place result.value result.next }
     {
         self.place.num_if(self.octets, present, lo, hi)
     }
 
     // The index of a choice, 0..top.
-    pub fn index(self, top: u32) -> Num
+    pub fn index(self, top: u32) -> Read<u32>
         ensures { Reads (index top) self.entry.octets.now self.entry.place result.value result.next }
     {
         self.place.index(self.octets, top)
     }
 
     // One bit, as a truth value.
-    pub fn flag(self) -> Flag
+    pub fn flag(self) -> Read<bool>
         ensures { Reads flag self.entry.octets.now self.entry.place result.value result.next }
     {
         self.place.flag(self.octets)
@@ -72,21 +72,21 @@ impl<'a> Reader<'a> {
     }
 
     // The count of a list, at most 16.
-    pub fn count(self) -> Num
+    pub fn count(self) -> Read<u32>
         ensures { Reads count self.entry.octets.now self.entry.place result.value result.next }
     {
         self.place.count(self.octets)
     }
 
     // Presence bits as one number of 0..all: those that are not carried are refused, and where one is needed, none.
-    pub fn mask(self, all: u32, carried: u32, need: bool) -> Num
+    pub fn mask(self, all: u32, carried: u32, need: bool) -> Read<u32>
         ensures { Reads (mask all carried need) self.entry.octets.now self.entry.place result.value result.next }
     {
         self.place.mask(self.octets, all, carried, need)
     }
 
     // A number of -below..top, sent plus `below`.
-    pub fn signed(self, below: u16, top: u16) -> SignedRead
+    pub fn signed(self, below: u16, top: u16) -> Read<Signed>
         ensures { Reads (signed below top) self.entry.octets.now self.entry.place result.value result.next }
     {
         self.place.signed(self.octets, below, top)
@@ -100,14 +100,14 @@ impl<'a> Reader<'a> {
     }
 
     // A whole aircraft PDU.
-    pub fn air(self) -> AirRead
+    pub fn air(self) -> Read<AirPdu>
         ensures { Reads air_c self.entry.octets.now self.entry.place result.value result.next }
     {
         read_air(self.place, self.octets)
     }
 
     // A whole ground PDU.
-    pub fn ground(self) -> GroundRead
+    pub fn ground(self) -> Read<Ground>
         ensures { Reads ground_c self.entry.octets.now self.entry.place result.value result.next }
     {
         read_ground(self.place, self.octets)
@@ -125,13 +125,13 @@ impl<'a> Reader<'a> {
 }
 
 // From a place through a reader that is made for it, for callers that hold none: the contracts are those of the covered functions.
-fn air_from(place: Cursor, octets: &[u8]) -> AirRead
+fn air_from(place: Cursor, octets: &[u8]) -> Read<AirPdu>
     ensures { Reads air_c octets.now place result.value result.next }
 {
     Reader::new(octets, place).air()
 }
 
-fn ground_from(place: Cursor, octets: &[u8]) -> GroundRead
+fn ground_from(place: Cursor, octets: &[u8]) -> Read<Ground>
     ensures { Reads ground_c octets.now place result.value result.next }
 {
     Reader::new(octets, place).ground()

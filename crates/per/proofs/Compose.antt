@@ -8,7 +8,7 @@ use lib.Dec.{eqb, leb, eqb-suc-zero}
 use lib.ListN.{length}
 use borrow.Author.Tests.{eq-eqb, ne_eqb, eqb-true, eqb-false, leb-true}
 use Rattle.per.specs.declared.cursor.Cursor.{Cursor}
-use Rattle.per.specs.declared.cursor.Num.{Num}
+use Rattle.per.specs.declared.cursor.Read.{Read}
 use Rattle.per.specs.Codec.{Codec, Out, out, place, refuse}
 use Rattle.per.specs.laws.Codec.{unless-true}
 use Rattle.per.specs.Bits.{num_at}
@@ -100,7 +100,7 @@ module _ {A : Type 0} {c : Codec A} (bad : A → ℕ) {s : List ℕ} {j n : Curs
       record { value_is = rw (e, b) r.value_is; next_is = rw (e, b) (p ∙ ap (λ (i : Cursor). place i.at) r.next_is) }
 
 -- the same with the judgement as a number
-pub only-settled : {c : Codec ℕ} (bad : ℕ → ℕ) {s : List ℕ} {j : Cursor} (t : Num) (m : ℕ) → Reads c s j t.value t.next → c.none ≡ 0 → m ≡ bad t.value
+pub only-settled : {c : Codec ℕ} (bad : ℕ → ℕ) {s : List ℕ} {j : Cursor} (t : Read ℕ) (m : ℕ) → Reads c s j t.value t.next → c.none ≡ 0 → m ≡ bad t.value
     → Reads (only c bad) s j (settled j t m).value (settled j t m).next
 unfolding settled
 only-settled {c} bad {s} {j} t m r z q = go (eqb t.next.refusal 0) refl m refl

@@ -10,7 +10,7 @@ use lib.Dec.{eqb, leb, ltb, eqb-suc-zero}
 use lib.Pow.{pow_mono}
 use borrow.Author.Tests.{eq-eqb, le-leb, lt-leb, eqb-true, eqb-false, leb-true, ltb-true, ltb-false}
 use Rattle.per.specs.declared.cursor.Cursor.{Cursor}
-use Rattle.per.specs.declared.cursor.Num.{Num}
+use Rattle.per.specs.declared.cursor.Read.{Read}
 use Rattle.per.specs.Bits.{num_at}
 use Rattle.per.specs.laws.Bits.{num_at-lt}
 use Rattle.per.specs.Codec.{Codec, Out, out, place, refuse, unless}
@@ -164,7 +164,7 @@ module _ (lo hi v : ℕ) (r : Bool) (e : r ≡ not (leb (lo + v) hi)) where
       go false q = refl
 
 -- ---- a judgement as a number
-module _ {A : Type 0} (f : Field A) {w : ℕ} (e : w ≡ f.width) (o : w ≤ 32) {s : List ℕ} {j : Cursor} (t : Num) (m : ℕ)
+module _ {A : Type 0} (f : Field A) {w : ℕ} (e : w ≡ f.width) (o : w ≤ 32) {s : List ℕ} {j : Cursor} (t : Read ℕ) (m : ℕ)
     (u : Reads (run w) s j t.value t.next) (q : m ≡ f.judge t.value) where
   -- the cursor is the field's
   pub settled-next : (settled j t m).next ≡ ((field f).run (window s) j).next

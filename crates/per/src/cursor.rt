@@ -18,18 +18,11 @@ pub struct Cursor {
     pub refusal: u8,
 }
 
-// A number that was read.
+// What was read at a place, and where reading goes on.
 #[derive(Drop)]
 #[derive(Clone, Copy)]
-pub struct Num {
-    pub value: u32,
-    pub next: Cursor,
-}
-
-// A truth value that was read.
-#[derive(Drop)]
-pub struct Flag {
-    pub value: bool,
+pub struct Read<T> {
+    pub value: T,
     pub next: Cursor,
 }
 
@@ -40,21 +33,12 @@ pub struct Signed {
     pub number: i32,
 }
 
-// A number with a sign that was read.
-#[derive(Drop)]
-pub struct SignedRead {
-    pub value: Signed,
-    pub next: Cursor,
-}
-
-// Nothing was read at a place, for the refusal's reason.
-fn refused(at: usize, refusal: u8) -> Num
-    ensures { result ≡ record { value = 0; next = refuse at refusal } }
+// Nothing was read at a place, for the refusal's reason: `value` is the empty one.
+fn refused<T>(value: T, at: usize, refusal: u8) -> Read<T>
+    ensures { result ≡ record { value = value; next = refuse at refusal } }
 {
-    Num {
-        value: 0,
-        next: Cursor { at, refusal },
-    }
+    let next = Cursor { at, refusal };
+    Read { value, next }
 }
 
 // A number v that was sent is above the range lo..hi; nothing is in an empty range.
@@ -138,45 +122,37 @@ impl Cursor {
     }
 
     // The next w bits as a number, w up to 32.
-    pub fn take(self, s: &[u8], w: usize) -> Num
+    pub fn take(self, s: &[u8], w: usize) -> Read<u32>
         ensures { Reads (run w) s.now self result.value result.next }
     {
         let at = self.at;
         if self.refusal != 0 {
-            return Num {
+            return Read {
                 value: 0,
                 next: self,
             };
         }
         if left(s, at) < w {
-            return refused(at, CUT_SHORT);
+            return refused(0, at, CUT_SHORT);
         }
+        let next = Cursor {
+            at: at + w,
+            refusal: 0,
+        };
         // Called from one place alone, the leaf would be compiled into `take`, which then is too long to be compiled into its callers, where w is known.
         if w <= 8 {
-            let v = bits_at(s, at, w);
-            return Num {
-                value: v as u32,
-                next: Cursor {
-                    at: at + w,
-                    refusal: 0,
-                },
-            };
+            let value = bits_at(s, at, w) as u32;
+            return Read { value, next };
         }
         if 32 < w {
-            return refused(at, ABOVE_RANGE);
+            return refused(0, at, ABOVE_RANGE);
         }
-        let v = bits_at(s, at, w);
-        Num {
-            value: v as u32,
-            next: Cursor {
-                at: at + w,
-                refusal: 0,
-            },
-        }
+        let value = bits_at(s, at, w) as u32;
+        Read { value, next }
     }
 
     // The reading t from this place on, with the judgement `bad` on it.
-    fn settle(self, t: Num, bad: u8) -> Num
+    fn settle(self, t: Read<u32>, bad: u8) -> Read<u32>
         ensures { result ≡ settled self t bad }
     {
         let n = t.next;
@@ -184,19 +160,13 @@ impl Cursor {
             return t;
         }
         if bad != 0 {
-            return Num {
-                value: 0,
-                next: Cursor {
-                    at: self.at,
-                    refusal: bad,
-                },
-            };
+            return refused(0, self.at, bad);
         }
         t
     }
 
     // A whole number in lo..hi.
-    pub fn num(self, s: &[u8], lo: u32, hi: u32) -> Num
+    pub fn num(self, s: &[u8], lo: u32, hi: u32) -> Read<u32>
         ensures { Reads (num lo hi) s.now self result.value result.next }
     {
         let t = self.take(s, width_of(span(lo, hi)));
@@ -206,47 +176,41 @@ impl Cursor {
             return t;
         }
         if above(lo, hi, v) {
-            return Num {
-                value: 0,
-                next: Cursor {
-                    at: self.at,
-                    refusal: ABOVE_RANGE,
-                },
-            };
+            return refused(0, self.at, ABOVE_RANGE);
         }
-        Num {
+        Read {
             value: lo + v,
             next: n,
         }
     }
 
     // A whole number in lo..hi that stands there only if it is present.
-    pub fn num_if(self, s: &[u8], present: bool, lo: u32, hi: u32) -> Num
+    pub fn num_if(self, s: &[u8], present: bool, lo: u32, hi: u32) -> Read<u32>
         ensures { Reads (when present 0 (num lo hi)) s.now self result.value result.next }
     {
         if present {
             return self.num(s, lo, hi);
         }
-        Num {
+        Read {
             value: 0,
             next: self,
         }
     }
 
     // The index of a choice, 0..top.
-    pub fn index(self, s: &[u8], top: u32) -> Num
+    pub fn index(self, s: &[u8], top: u32) -> Read<u32>
         ensures { Reads (index top) s.now self result.value result.next }
     {
         self.num(s, 0, top)
     }
 
     // One bit, as a truth value.
-    pub fn flag(self, s: &[u8]) -> Flag
+    pub fn flag(self, s: &[u8]) -> Read<bool>
         ensures { Reads flag s.now self result.value result.next }
     {
         let t = self.take(s, 1);
         let n = t.next;
-        Flag {
+        Read {
             value: t.value == 1,
             next: n,
         }
@@ -262,7 +226,7 @@ impl Cursor {
     }
 
     // The count of a list, at most 16.
-    pub fn count(self, s: &[u8]) -> Num
+    pub fn count(self, s: &[u8]) -> Read<u32>
         ensures { Reads count s.now self result.value result.next }
     {
         let t = self.take(s, 8);
@@ -270,7 +234,7 @@ impl Cursor {
     }
 
     // Presence bits as one number of 0..all: those that are not carried are refused, and where one is needed, none.
-    pub fn mask(self, s: &[u8], all: u32, carried: u32, need: bool) -> Num
+    pub fn mask(self, s: &[u8], all: u32, carried: u32, need: bool) -> Read<u32>
         ensures { Reads (mask all carried need) s.now self result.value result.next }
     {
         let t = self.num(s, 0, all);
@@ -278,7 +242,7 @@ impl Cursor {
     }
 
     // A number of -below..top, sent plus `below`.
-    pub fn signed(self, s: &[u8], below: u16, top: u16) -> SignedRead
+    pub fn signed(self, s: &[u8], below: u16, top: u16) -> Read<Signed>
         ensures { Reads (signed below top) s.now self result.value result.next }
     {
         let most = top as u32 + below as u32;
@@ -286,22 +250,16 @@ impl Cursor {
         let n = t.next;
         let v = t.value;
         if n.refusal != 0 {
-            return SignedRead {
+            return Read {
                 value: Signed { number: 0 },
                 next: n,
             };
         }
         if most < v {
-            return SignedRead {
-                value: Signed { number: 0 },
-                next: Cursor {
-                    at: self.at,
-                    refusal: ABOVE_RANGE,
-                },
-            };
+            return refused(Signed { number: 0 }, self.at, ABOVE_RANGE);
         }
         let number = v as i32 - below as i32;
-        SignedRead {
+        Read {
             value: Signed { number },
             next: n,
         }

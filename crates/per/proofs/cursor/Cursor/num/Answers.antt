@@ -12,8 +12,8 @@ returns-then-n-ne0 c = let w = c.width_of.ensures in
 
 pub returns-then-above : goal.returns-then-above
 returns-then-above c = let w = c.width_of.ensures in
-    judged-bad (num_field _ _) (w.0 ∙ ap width c.span.ensures) w.1 c.take-t.ensures 7 c.if-n-ne0.false
-    (above-8 c.args.lo c.args.hi c.take-t.result.value _ c.above.ensures c.if-above.true)
+    rw c.refused.ensures (judged-bad (num_field _ _) (w.0 ∙ ap width c.span.ensures) w.1 c.take-t.ensures 7 c.if-n-ne0.false
+    (above-8 c.args.lo c.args.hi c.take-t.result.value _ c.above.ensures c.if-above.true))
 
 pub overflow_add-result : goal.overflow_add-result
 overflow_add-result c = omega (arith, above-le c.args.lo c.args.hi c.take-t.result.value _ c.above.ensures c.if-above.false)

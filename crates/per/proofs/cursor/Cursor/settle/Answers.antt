@@ -8,7 +8,7 @@ returns-then-n-ne0 c = rw (ne_eqb _ _ c.if-n-ne0.true)
 
 pub returns-then-bad-ne0 : goal.returns-then-bad-ne0
 unfolding settled
-returns-then-bad-ne0 c = rw (eq-eqb _ _ c.if-n-ne0.false, ne_eqb _ _ c.if-bad-ne0.true)
+returns-then-bad-ne0 c = rw (eq-eqb _ _ c.if-n-ne0.false, ne_eqb _ _ c.if-bad-ne0.true) c.refused.ensures
 
 pub returns : goal.returns
 unfolding settled

@@ -11,7 +11,7 @@ returns-then-n-ne0 c = let w = c.width_of.ensures in
 
 pub returns-then-most-v : goal.returns-then-most-v
 returns-then-most-v c = let w = c.width_of.ensures in
-    judged-bad (signed_field _ _) w.0 w.1 c.take-t.ensures 7 c.if-n-ne0.false (unless-gt _ _ 8 c.if-most-v.true)
+    rw c.refused.ensures (judged-bad (signed_field _ _) w.0 w.1 c.take-t.ensures 7 c.if-n-ne0.false (unless-gt _ _ 8 c.if-most-v.true))
 
 pub overflow_sub-number : goal.overflow_sub-number
 overflow_sub-number c = less-fits c.take-t.result.value c.args.below (omega arith) (omega arith)
