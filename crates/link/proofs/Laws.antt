@@ -1,16 +1,20 @@
 -- Laws of tests, of lists that are worked through from their start, and of lists of actions. Assumes nothing.
 use mathlib.Core.Path.{◌≡◌, refl, subst, sym, ap, ◌∙◌}
 use mathlib.Core.Logic.{◌⊎◌, inl, inr}
-use mathlib.Core.Bool.{Bool, true, false}
+use mathlib.Core.Bool.{Bool, true, false, ◌&&◌}
 use mathlib.Core.List.{List, [], ◌∷◌, ◌++◌, map, append-nil, append_assoc}
 use Prim.Native.Nat.{ℕ, zero, suc, ◌+◌, ◌-◌, ◌<◌, ◌≤◌}
 use native.Mathlib.Omega.{arith}
-use native.Mathlib.Nat.{not-suc-le-zero, le_of_suc-le-suc, eq-or-lt_of_le, le_of_eq, le_refl}
-use native.Mathlib.Numerals.{add-one}
+use native.Mathlib.Nat.{not-suc-le-zero, le_of_suc-le-suc, eq-or-lt_of_le, le_refl}
 use borrow.Author.Tests.{lt-ltb}
-use lib.Seq.{take_all, set-append_seam}
+use lib.Seq.{set-append_seam}
 use lib.Dec.{T, leb, ltb, leb→le, ltb→lt}
-use lib.ListN.{length, get_or, set, take, drop, replicate, drop_of_length-le, length-append}
+use lib.ListN.{length, get_or, set, replicate, length-append}
+use Rattle.std.specs.Array.{MapsFrom, IsMapOf}
+use Rattle.std.specs.Fn.{Called}
+use denote.Param.Members.{Mut}
+use Rattle.std.proofs.lemmas.List.{get_or-map, ext_get_or, length-map}
+use Rattle.std.specs.List.{list_all, range_with_len}
 use Rattle.link.specs.Tests.{both, pick, below}
 use Rattle.link.specs.Acts.{acts, pushed, pushed_all}
 use Rattle.link.specs.Watch.{seconds_ok}
@@ -46,16 +50,6 @@ both-1 a x p = rw p
 pub both-2 : (a b x : Bool) → a ≡ true → b ≡ false → false ≡ both a (both b x)
 both-2 a b x p q = rw (p, q)
 
-pub both-3 : (a b d x : Bool) → a ≡ true → b ≡ true → d ≡ false → false ≡ both a (both b (both d x))
-both-3 a b d x p q r = rw (p, q, r)
-
-pub both-4 : (a b d x : Bool) → a ≡ true → b ≡ true → d ≡ true → x ≡ both a (both b (both d x))
-both-4 a b d x p q r = rw (p, q, r)
-
--- the test passes below i and at i: it passes below i + 1
-pub below_more : (f : ℕ → Bool) (i : ℕ) → below i f ≡ true → f i ≡ true → below (i + 1) f ≡ true
-below_more f i p q = rw (add-one, q, p)
-
 -- it fails at one below n: it fails
 pub below_fails : (f : ℕ → Bool) (n i : ℕ) → i < n → f i ≡ false → below n f ≡ false
 below_fails f zero i h q = absurd (not-suc-le-zero h)
@@ -68,22 +62,37 @@ below_fails f (suc n) i h q =
     both-no true = refl
     both-no false = refl
 
--- what held of the test at the loop's end
-pub at-end : (f : ℕ → Bool) (i n : ℕ) → i ≡ n → below i f ≡ true → true ≡ below n f
-at-end f i n e h = sym (subst (λ (k : ℕ). below k f ≡ true) e h)
+-- a test of each number below n is a test of 0, and of each above it
+below_front : (n : ℕ) (f : ℕ → Bool) → below (suc n) f ≡ both (f 0) (below n (λ k. f (suc k)))
+below_front zero f = refl
+below_front (suc n) f = ap (both (f (suc n))) (below_front n f) ∙ swap (f (suc n)) (f 0) (below n (λ k. f (suc k)))
+  where
+    swap : (a b c : Bool) → both a (both b c) ≡ both b (both a c)
+    swap true b c = refl
+    swap false true c = refl
+    swap false false c = refl
 
-module _ (f : ℕ → ℕ) where
-  -- the first t entries through f, the others as they are
-  abbrev pub mid : List ℕ → ℕ → List ℕ
-  mid l t = map f (take t l) ++ drop t l
+and-both : (a : Bool) {b c : Bool} → b ≡ c → (a && b) ≡ both a c
+and-both true e = e
+and-both false e = refl
 
-  pub mid_step : (l : List ℕ) (t : ℕ) → t < length l → set (mid l t) t (f (get_or (mid l t) t 0)) ≡ mid l (suc t)
-  mid_step [] t h = absurd (not-suc-le-zero h)
-  mid_step (x ∷ xs) zero h = refl
-  mid_step (x ∷ xs) (suc t) h = ap (λ (r : List ℕ). f x ∷ r) (mid_step xs t (le_of_suc-le-suc h))
+-- a test of each of a list of n is one at each index below n
+pub below_list : (g : ℕ → Bool) (l : List ℕ) {n : ℕ} → length l ≡ n → list_all g l ≡ below n (λ k. g (get_or l k 0))
+below_list g l e = each l ∙ ap (λ n. below n (λ k. g (get_or l k 0))) e
+  where
+    each : (l : List ℕ) → list_all g l ≡ below (length l) (λ k. g (get_or l k 0))
+    each [] = refl
+    each (x ∷ xs) = and-both (g x) (each xs) ∙ sym (below_front (length xs) (λ k. g (get_or (x ∷ xs) k 0)))
 
-  pub mid-all : (l : List ℕ) (n : ℕ) → length l ≡ n → mid l n ≡ map f l
-  mid-all l n e = rw (take_all n l (le_of_eq e), drop_of_length-le l (le_of_eq e)) (append-nil (map f l))
+-- a test of each number of a range is one of each below its end
+pub below_range : (f : ℕ → Bool) (n : ℕ) → list_all f (range_with_len 0 n) ≡ below n f
+below_range f n = from 0 n f (λ k. ap f (omega arith))
+  where
+    from : (a n : ℕ) (g : ℕ → Bool) → ((k : ℕ) → f (a + k) ≡ g k) → list_all f (range_with_len a n) ≡ below n g
+    from a zero g e = refl
+    from a (suc n) g e =
+        let first : f a ≡ g 0 = ap f (omega arith) ∙ e 0 in
+        rw first (and-both (g 0) (from (a + 1) n (λ k. g (suc k)) (λ k. ap f (omega arith) ∙ e (suc k)))) ∙ sym (below_front n g)
 
 pub both-T : (a b : Bool) → T a → T b → T (both a b)
 both-T true b t u = u
@@ -170,3 +179,16 @@ push-first s b x e = e ∙ sym (pushed-one s b x)
 pub push-next : (s : Acts) {a r : Acts} (l : List ℕ) (b : Bool) (x : ℕ) → a ≡ pushed_all s l → r ≡ pick b (pushed a x) a → r ≡ pushed_all s (l ++ pick b (x ∷ []) [])
 push-next s l b x h e =
     e ∙ ap (λ (q : Acts). pick b (pushed q x) q) h ∙ sym (pushed-append s l (pick b (x ∷ []) []) ∙ pushed-one (pushed_all s l) b x)
+
+-- calls of a closure that changes nothing it holds, at each element in turn: its results are the map
+pub map_of_calls : {F : Type 0} (g : Mut F (ℕ × Unit {0}) ℕ) (h : ℕ → ℕ) (f : F) → ((x y : ℕ) (q : F) → Called g f (x, tt) y q → (q ≡ f) × (y ≡ h x)) → {xs ys : List ℕ} {n : ℕ} → length xs ≡ n → IsMapOf g f xs ys n → ys ≡ map h xs
+map_of_calls {F} g h f step {xs} {ys} {n} e m =
+    ext_get_or 0 ys (map h xs) (omega (arith, length-map xs h, e, m.long)) (λ k l. each f n 0 m.each refl k (omega arith) (omega (arith, m.long)) ∙ sym (get_or-map h xs k 0 0 (omega (arith, e, m.long))))
+  where
+    each : (p : F) (n i : ℕ) → MapsFrom g p xs ys i n → p ≡ f → (k : ℕ) → i ≤ k → k < i + n → get_or ys k 0 ≡ h (get_or xs k 0)
+    each p zero i m e k a b = absurd (omega arith)
+    each p (suc n) i (q, x, y, ex, ey, c, rest) e k a b =
+        let s = step x y q (subst (λ (p : F). Called g p (x, tt) y q) e c) in
+        cases (eq-or-lt_of_le a)
+        (λ here. subst (λ (k : ℕ). get_or ys k 0 ≡ h (get_or xs k 0)) here (ey.1 0 ∙ s.1 ∙ ap h (sym (ex.1 0))))
+        (λ later. each q n (i + 1) rest s.0 k (omega arith) (omega arith))

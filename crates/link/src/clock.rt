@@ -12,46 +12,25 @@ use crate::moves::TIMERS;
 // The most seconds of one elapse.
 pub const ELAPSE_MOST: u32 = 86400;
 
+#[tactic(auto, unfolding(crate::specs::Clock::due))]
 fn is_due(n: u32, left: u32) -> bool
     ensures { result ≡ due n left }
 {
-    if left < 1 {
-        return false;
-    }
-    left <= n
+    1 <= left && left <= n
 }
 
 // Whether every running timer outlasts n seconds.
 pub fn none_due(n: u32, left: [u32; TIMERS]) -> bool
     ensures { result ≡ below timers (not_due n left) }
 {
-    let mut t: usize = 0;
-    while t < TIMERS {
-        if is_due(n, left[t]) {
-            return false;
-        }
-        t += 1;
-    }
-    true
-}
-
-fn less(x: u32, n: u32) -> u32
-    ensures { result ≡ x - n }
-{
-    if x < n { 0 } else { x - n }
+    left.iter().all(|&seconds| !is_due(n, seconds))
 }
 
 // Each timer's seconds less n, down to 0.
 pub fn after(n: u32, left: [u32; TIMERS]) -> [u32; TIMERS]
     ensures { result ≡ later n left }
 {
-    let mut l = left;
-    let mut t: usize = 0;
-    while t < TIMERS {
-        l[t] = less(l[t], n);
-        t += 1;
-    }
-    l
+    left.map(|seconds| seconds.saturating_sub(n))
 }
 
 // The stop entries of the running timers, in watch order.
@@ -59,10 +38,8 @@ pub fn stops(left: [u32; TIMERS]) -> Acts
     ensures { result ≡ pushed_all (acts []) (stops_of timers left) }
 {
     let mut a = none();
-    let mut t: usize = 0;
-    while t < TIMERS {
+    for t in 0..TIMERS {
         a = push_when(a, 1 <= left[t], STOP + (t as u8));
-        t += 1;
     }
     a
 }

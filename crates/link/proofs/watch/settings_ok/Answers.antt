@@ -1,22 +1,14 @@
-use mathlib.Core.Path.{refl, sym}
-use borrow.Author.Tests.{not-true, not-false}
-use native.Mathlib.Omega.{arith}
-use Rattle.link.proofs.Laws.{below_more, below_fails, at-end}
-use Rattle.link.specs.Watch.{setting_ok}
+use Rattle.std.proofs.Common.{◌≡◌, rules, length, ◌∙◌}
+use borrow.Author.Tests.{tests}
+use Rattle.std.proofs.lemmas.Iterator.{YieldsList-from_slice}
+use Rattle.std.proofs.lemmas.Iterator.Search.{all_from_yields_List}
+use Rattle.link.proofs.Laws.{below_list}
 use Rattle.link.specs.Names.{timers}
-use Rattle.std.proofs.Common.{rules}
+use Rattle.link.specs.Watch.{seconds_ok, setting_ok}
 use Rattle.link.proofs.watch.settings_ok.Goals as goal
 
-pub loop-t-init : goal.loop-t-init
-loop-t-init c = (search rules, refl)
-
-pub returns-then-not-setting_ok : goal.returns-then-not-setting_ok
-unfolding setting_ok
-returns-then-not-setting_ok c = sym (below_fails (setting_ok c.args.s) timers c.loop-t.t (search rules) (rw (← c.setting_ok.ensures) (not-true _ c.if-not-setting_ok.true-raw)))
-
-pub loop-t-preserved : goal.loop-t-preserved
-unfolding setting_ok
-loop-t-preserved c = (omega arith, below_more (setting_ok c.args.s) c.loop-t.t c.loop-t.invariant.1 (rw (← c.setting_ok.ensures) (not-false _ c.if-not-setting_ok.false-raw)))
-
 pub returns : goal.returns
-returns c = at-end (setting_ok c.args.s) c.loop-t.t timers (omega arith) c.loop-t.invariant.1
+unfolding setting_ok
+returns c = let long : length c.args.s ≡ timers = search rules in
+    all_from_yields_List seconds_ok _ _ _ c.all.ensures.ran (YieldsList-from_slice c.args.s cc) (λ x b q k. search (rules, tests))
+    ∙ below_list seconds_ok c.args.s long
