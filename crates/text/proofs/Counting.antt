@@ -1,38 +1,17 @@
 -- Laws of whole numbers as text. Assumes nothing.
-use mathlib.Core.Path.{◌≡◌, refl, sym, ap, ◌∙◌}
+use mathlib.Core.Path.{◌≡◌, refl, ap, ◌∙◌}
 use mathlib.Core.Bool.{Bool, true, false}
 use mathlib.Core.List.{List, [], ◌∷◌}
-use mathlib.Core.Logic.{⊎_elim}
-use Prim.Native.Nat.{ℕ, zero, suc, ◌+◌, ◌-◌, ◌*◌, ◌≤◌, ◌<◌}
-use native.Mathlib.Nat.{eq-or-lt_of_le}
+use Prim.Native.Nat.{ℕ, suc, ◌+◌, ◌-◌, ◌≤◌, ◌<◌}
 use native.Mathlib.Omega.{arith}
-use borrow.Author.Tests.{le-leb, lt-leb, eq-eqb, ne_eqb}
+use borrow.Author.Tests.{eq-eqb, ne_eqb}
 use lib.Dec.{eqb}
-use lib.ListN.{length, get_or, take, drop, set, length-drop, drop_of_length-le}
-use lib.Seq.{drop-drop}
+use lib.ListN.{length, get_or, take, drop}
 use Rattle.text.specs.Text.{pick, word_end}
 use Rattle.text.specs.Numbers.{number_from, number_of, no_step, stepped_of, step_of}
 use Rattle.text.specs.declared.digits.Number.{Number}
 use Rattle.text.specs.declared.digits.Number.TheVariants.{Value, Unread}
-use Rattle.text.specs.declared.digits.Stepped.{Stepped}
-use Rattle.text.proofs.Laws.{next, part-all}
-
-pub number_more : (v : ℕ) (s : List ℕ) (i : ℕ) → i < length s → 48 ≤ get_or s i 0 → get_or s i 0 ≤ 57 → v * 10 + (get_or s i 0 - 48) ≤ 4294967295
-    → number_from (v * 10 + (get_or s i 0 - 48)) (drop (i + 1) s) ≡ number_from v (drop i s)
-number_more v s i h a b c = rw (next s i h, le-leb _ _ a, le-leb _ _ b, le-leb _ _ c)
-
-pub number-low : (v : ℕ) (s : List ℕ) (i : ℕ) → i < length s → get_or s i 0 < 48 → number_from v (drop i s) ≡ Unread
-number-low v s i h a = rw (next s i h, lt-leb _ _ a)
-
-pub number-high : (v : ℕ) (s : List ℕ) (i : ℕ) → i < length s → 48 ≤ get_or s i 0 → 57 < get_or s i 0 → number_from v (drop i s) ≡ Unread
-number-high v s i h a b = rw (next s i h, le-leb _ _ a, lt-leb _ _ b)
-
-pub number-big : (v : ℕ) (s : List ℕ) (i : ℕ) → i < length s → 48 ≤ get_or s i 0 → get_or s i 0 ≤ 57 → 4294967295 < v * 10 + (get_or s i 0 - 48)
-    → number_from v (drop i s) ≡ Unread
-number-big v s i h a b c = rw (next s i h, le-leb _ _ a, le-leb _ _ b, lt-leb _ _ c)
-
-pub number-end : (v : ℕ) (s : List ℕ) (i : ℕ) → length s ≤ i → number_from v (drop i s) ≡ Value v
-number-end v s i h = rw (drop_of_length-le s h)
+use Rattle.text.proofs.Laws.{part-all}
 
 -- a number's first digit
 pub number-none : (s : List ℕ) → length s ≡ 0 → number_of s ≡ Unread
@@ -77,7 +56,7 @@ step-good (c ∷ cs) e n h sp ends is =
     let k : e + 1 - 1 ≡ e = omega arith in
     rw (eq-eqb c 32 sp, is, k, w)
 
-word-within : (s : List ℕ) → word_end s ≤ length s
+pub word-within : (s : List ℕ) → word_end s ≤ length s
 word-within [] = omega arith
 word-within (c ∷ cs) = go (eqb c 32) (word-within cs)
   where

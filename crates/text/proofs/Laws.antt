@@ -4,15 +4,14 @@ use mathlib.Core.Bool.{Bool, true, false}
 use mathlib.Core.List.{List, [], ◌∷◌}
 use Prim.Native.Nat.{ℕ, zero, suc, ◌+◌, ◌-◌, ◌*◌, ◌/◌, ◌%◌, ◌≤◌, ◌<◌, min}
 use native.Mathlib.Omega.{arith}
-use native.Mathlib.Nat.{eq-or-lt_of_le}
-use mathlib.Core.Logic.{⊎_elim, ◌⊎◌, inl, inr}
+use mathlib.Core.Logic.{◌⊎◌, inl, inr}
 use native.Mathlib.Numerals.{add-one, unary_clauses}
-use borrow.Author.Tests.{lt-ltb, le-ltb, eq-eqb, ne_eqb, ltb-true, leb-true, leb-false, eqb-true}
+use borrow.Author.Tests.{lt-ltb, le-ltb, ltb-true, leb-true, leb-false, eqb-true}
 use lib.Dec.{eqb, leb, ltb}
 use lib.ListN.{length, get_or, take, drop, set, length-set, drop_of_length-le, length-drop}
 use lib.Seq.{drop-cons, sets, take_all, set_out, drop-set-lt, get_or-set_same}
-use Rattle.text.specs.Text.{pick, both, digit_of, all_hex, hex_good, octets_of, word_end, same_text, glyph_of, hex_text, decimal_onto, decimal}
-use Rattle.text.specs.Page.{Page, page, put, wrote, Writes}
+use Rattle.text.specs.Text.{pick, both, digit_of, all_hex, hex_good, octets_of, decimal_onto, decimal}
+use Rattle.text.specs.Page.{page, put}
 
 pub le-or-lt : (a b : ℕ) → (a ≤ b) ⊎ (b < a)
 le-or-lt a b = go (leb a b) refl
@@ -25,23 +24,9 @@ le-or-lt a b = go (leb a b) refl
 pub next : (s : List ℕ) (i : ℕ) → i < length s → drop i s ≡ get_or s i 0 ∷ drop (i + 1) s
 next s i h = rw add-one (drop-cons s i 0 h)
 
-pub text-step : {p q : Page} (s : List ℕ) (i : ℕ) → i < length s → Writes p (get_or s i 0 ∷ []) q → wrote q (drop (i + 1) s) ≡ wrote p (drop i s)
-text-step {p} {q} s i h w = rw (w.is, next s i h)
-
-pub hex-step : {p q : Page} (s : List ℕ) (i : ℕ) → i < length s → Writes p (glyph_of (get_or s i 0 / 16) ∷ glyph_of (get_or s i 0 % 16) ∷ []) q
-    → wrote q (hex_text (drop (i + 1) s)) ≡ wrote p (hex_text (drop i s))
-hex-step {p} {q} s i h w = rw (w.is, next s i h)
-
 pub both_true : (a b : Bool) → both a b ≡ true → (a ≡ true) × (b ≡ true)
 both_true true b e = (refl, e)
 both_true false b e = let z : ◌≡◌ {A = ℕ} 0 1 = cc in absurd (omega arith)
-
--- a digit, and the rest
-pub hex-more : (s : List ℕ) (i : ℕ) → i < length s → digit_of (get_or s i 0) < 16 → all_hex (drop (i + 1) s) ≡ all_hex (drop i s)
-hex-more s i h d = rw (next s i h, lt-ltb _ _ d)
-
-pub hex-stop : (s : List ℕ) (i : ℕ) → i < length s → 16 ≤ digit_of (get_or s i 0) → all_hex (drop i s) ≡ false
-hex-stop s i h d = rw (next s i h, le-ltb _ _ d)
 
 pub hex-head : (s : List ℕ) (i : ℕ) → i < length s → all_hex (drop i s) ≡ true → (digit_of (get_or s i 0) < 16) × (all_hex (drop (i + 1) s) ≡ true)
 hex-head s i h e =
@@ -56,36 +41,10 @@ fill_step s out i j h =
     let lo : j < length s = omega arith in
     rw (e, next s j lo, next s (j + 1) h, add-one i)
 
--- a word
-pub word_more : (s : List ℕ) (i : ℕ) → i < length s → (get_or s i 0 ≡ 32 → ⊥) → word_end (drop i s) ≡ 1 + word_end (drop (i + 1) s)
-word_more s i h n = rw (next s i h, ne_eqb _ _ n)
-
-pub word-stop : (s : List ℕ) (i : ℕ) → i < length s → get_or s i 0 ≡ 32 → word_end (drop i s) ≡ 0
-word-stop s i h e = rw (next s i h, eq-eqb _ _ e)
-
-pub same_more : (a b : List ℕ) (i : ℕ) → i < length a → i < length b → get_or a i 0 ≡ get_or b i 0 → same_text (drop (i + 1) a) (drop (i + 1) b) ≡ same_text (drop i a) (drop i b)
-same_more a b i ha hb e = rw (next a i ha, next b i hb, eq-eqb _ _ e)
-
-pub same_stop : (a b : List ℕ) (i : ℕ) → i < length a → i < length b → (get_or a i 0 ≡ get_or b i 0 → ⊥) → same_text (drop i a) (drop i b) ≡ false
-same_stop a b i ha hb n = rw (next a i ha, next b i hb, ne_eqb _ _ n)
-
 -- ends
 pub put_full : (l : List ℕ) (a b : ℕ) → length l ≤ a → put (page l a) b ≡ page l a
 unfolding put
 put_full l a b h = rw (le-ltb a (length l) h, set_out l a b h)
-
-pub text-end : (p : Page) (s : List ℕ) (i : ℕ) → length s ≤ i → wrote p (drop i s) ≡ p
-text-end p s i h = rw (drop_of_length-le s h)
-
-pub hex-text-end : (p : Page) (s : List ℕ) (i : ℕ) → length s ≤ i → wrote p (hex_text (drop i s)) ≡ p
-hex-text-end p s i h = rw (drop_of_length-le s h)
-
-pub hex-all : (s : List ℕ) (i : ℕ) → length s ≤ i → all_hex (drop i s) ≡ all_hex s → all_hex s ≡ true
-hex-all s i h e = sym e ∙ rw (drop_of_length-le s h)
-
-pub hex-bad : (s : List ℕ) → all_hex s ≡ false → hex_good s ≡ false
-unfolding hex_good
-hex-bad s e = rw e
 
 pub hex-even : (s : List ℕ) → hex_good s ≡ true → (all_hex s ≡ true) × (length s % 2 ≡ 0)
 unfolding hex_good
@@ -103,27 +62,6 @@ hex-two s j h e =
 pub fill_end : (s out : List ℕ) (i j : ℕ) → length s ≤ j → sets out i (octets_of (drop j s)) ≡ out
 fill_end s out i j h = rw (drop_of_length-le s h)
 
-pub word_out : (s : List ℕ) (i : ℕ) → length s ≤ i → word_end (drop i s) ≡ 0
-word_out s i h = rw (drop_of_length-le s h)
-
-pub same_ends : (a b : List ℕ) (i : ℕ) → length a ≤ i → i ≡ length b → eqb i (length b) ≡ same_text (drop i a) (drop i b)
-same_ends a b i h e =
-    let k : length b ≤ i = omega arith in
-    rw (eq-eqb _ _ e, drop_of_length-le a h, drop_of_length-le b k)
-
-pub same-longer : (a b : List ℕ) (i : ℕ) → length a ≤ i → i < length b → eqb i (length b) ≡ same_text (drop i a) (drop i b)
-same-longer a b i h l =
-    let n : (i ≡ length b → ⊥) = λ e. omega arith in
-    rw (ne_eqb _ _ n, drop_of_length-le a h, next b i l)
-
--- the first list is at its end
-pub same_out : (a b : List ℕ) (i : ℕ) → length a ≤ i → i ≤ length b → eqb i (length b) ≡ same_text (drop i a) (drop i b)
-same_out a b i h k = ⊎_elim (λ (e : i ≡ length b). same_ends a b i h e) (λ (l : i < length b). same-longer a b i h l) (eq-or-lt_of_le k)
-
--- the second is, and the first is not
-pub same-short : (a b : List ℕ) (i : ℕ) → i < length a → length b ≤ i → same_text (drop i a) (drop i b) ≡ false
-same-short a b i h k = rw (next a i h, drop_of_length-le b k)
-
 -- one digit more, in front
 pub digit-step : (l : List ℕ) (k n : ℕ) → k < length l → 10 ≤ n
     → decimal_onto k (n / 10) (drop k (set l k (48 + n / 10 % 10))) ≡ decimal_onto (suc k) n (drop (suc k) l)
@@ -139,14 +77,6 @@ digits-done (suc k) n t h = rw (lt-ltb n 10 h)
 pub digits-none : (k n : ℕ) (t : List ℕ) → k ≡ 0 → decimal_onto k n t ≡ t
 digits-none zero n t h = refl
 digits-none (suc k) n t h = absurd (omega arith)
-
--- the last digit
-pub digit-last : (l : List ℕ) (x : ℕ) → length l ≡ 20 → drop 19 (set l 19 x) ≡ x ∷ []
-digit-last l x e =
-    let r : 19 < length (set l 19 x) = simp length-set (omega arith) in
-    let h : 19 < length l = omega arith in
-    let z : length (set l 19 x) ≤ 20 = simp length-set (omega arith) in
-    drop-cons (set l 19 x) 19 0 r ∙ rw (get_or-set_same l 19 x 0 h, drop_of_length-le (set l 19 x) z)
 
 -- a part up to the end
 pub part-all : (l : List ℕ) (a n : ℕ) → length l ≡ n → take (n - a) (drop a l) ≡ drop a l

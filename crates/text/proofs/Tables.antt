@@ -1,6 +1,6 @@
 -- The words of a table, as laws. Assumes nothing.
 use mathlib.Core.Path.{◌≡◌, refl, sym, ◌∙◌}
-use mathlib.Core.Bool.{true, false}
+use mathlib.Core.Bool.{true}
 use mathlib.Core.List.{List, [], ◌∷◌}
 use mathlib.Core.Logic.{⊎_elim}
 use Prim.Native.Nat.{ℕ, zero, suc, ◌+◌, ◌-◌, ◌≤◌, ◌<◌, min}
@@ -66,9 +66,6 @@ word-part text begins n to from h p q = rw (q, p, word-is text begins n h, add-o
 
 -- one word of those that are looked through
 module _ (w : List ℕ) (words : List (List ℕ)) (n : ℕ) where
-  pub word-other : n < length words → same_text w (word_at words n) ≡ false → found_from (n + 1) w (drop (n + 1) words) ≡ found_from n w (drop n words)
-  word-other h e = rw (drop-cons words n [] h, e, add-one n)
-
   pub word-found : n < length words → same_text w (word_at words n) ≡ true → n ≡ found_from n w (drop n words)
   word-found h e = rw (drop-cons words n [] h, e)
 

@@ -1,5 +1,5 @@
 -- Whole numbers as text (01, "Script words"): "N has no sign or leading zero and fits 32 bits".
-use Rattle.std.specs.Prelude.{true, false, List, [], ◌∷◌, ℕ, zero, suc, ◌+◌, ◌-◌, ◌*◌, eqb, leb, take}
+use Rattle.std.specs.Prelude.{true, false, List, [], ◌∷◌, ℕ, ◌+◌, ◌-◌, ◌*◌, eqb, leb, take}
 use Rattle.text.specs.Text.{pick, both, word_end}
 use Rattle.text.specs.declared.digits.Number.{Number}
 use Rattle.text.specs.declared.digits.Number.TheVariants.{Value, Unread}

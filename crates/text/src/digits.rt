@@ -16,21 +16,15 @@ fn digits_of(s: &[u8]) -> Number
     ensures { result ≡ number_from 0 s.now }
 {
     let mut v: u32 = 0;
-    let mut i = 0;
-    while i < s.len() {
-        let c = s[i];
-        if c < 48 {
+    for c in s {
+        if !c.is_ascii_digit() {
             return Number::Unread;
         }
-        if c > 57 {
-            return Number::Unread;
-        }
-        let next = (v as u64) * 10 + (c - 48) as u64;
+        let next = (v as u64) * 10 + (*c - b'0') as u64;
         if next > 4294967295 {
             return Number::Unread;
         }
         v = next as u32;
-        i += 1;
     }
     Number::Value(v)
 }
@@ -39,16 +33,12 @@ fn digits_of(s: &[u8]) -> Number
 pub fn parse_number(s: &[u8]) -> Number
     ensures { result ≡ number_of s.now }
 {
-    if s.len() == 0 {
-        return Number::Unread;
+    match s.len() {
+        0 => Number::Unread,
+        1 => digits_of(s),
+        _ if s[0] == b'0' => Number::Unread,
+        _ => digits_of(s),
     }
-    if s.len() == 1 {
-        return digits_of(s);
-    }
-    if s[0] == 48 {
-        return Number::Unread;
-    }
-    digits_of(s)
 }
 
 // What `number_step` found: the number, and how many octets it took.

@@ -28,36 +28,21 @@ pub fn least(a: usize, b: usize) -> usize
 }
 
 // The value of a hexadecimal digit in lower case, or 16.
+#[tactic(auto, unfolding(crate::specs::Text::digit_of))]
 pub fn digit(c: u8) -> u8
     ensures { result ≡ digit_of c }
 {
-    if c < 48 {
-        return 16;
+    match c {
+        b'0'..=b'9' => c - b'0',
+        b'a'..=b'f' => c - b'a' + 10,
+        _ => 16,
     }
-    if c < 58 {
-        return c - 48;
-    }
-    if c < 97 {
-        return 16;
-    }
-    if c < 103 {
-        return c - 87;
-    }
-    16
 }
 
 fn hex_good(s: &[u8]) -> bool
     ensures { result ≡ hex_good s.now }
 {
-    let n = s.len();
-    let mut i = 0;
-    while i < n {
-        if digit(s[i]) >= 16 {
-            return false;
-        }
-        i += 1;
-    }
-    n % 2 == 0
+    s.iter().all(|c| digit(*c) < 16) && s.len() % 2 == 0
 }
 
 // One octet of two digits.
@@ -84,19 +69,18 @@ pub fn put_text(out: &mut [u8], at: usize, s: &[u8]) -> usize
     ensures { Writes (page out.old at) s.now (page out.new result) }
 {
     let mut a = at;
-    let mut i = 0;
-    while i < s.len() {
-        a = put_byte(out, a, s[i]);
-        i += 1;
+    for c in s {
+        a = put_byte(out, a, *c);
     }
     a
 }
 
+#[tactic(auto, unfolding(crate::specs::Text::glyph_of))]
 fn glyph(d: u8) -> u8
     requires { d < 16 }
     ensures { result ≡ glyph_of d }
 {
-    if d < 10 { 48 + d } else { 87 + d }
+    if d < 10 { b'0' + d } else { b'a' + (d - 10) }
 }
 
 // An octet as two digits.
@@ -112,10 +96,8 @@ pub fn put_hex(out: &mut [u8], at: usize, s: &[u8]) -> usize
     ensures { Writes (page out.old at) (hex_text s.now) (page out.new result) }
 {
     let mut a = at;
-    let mut i = 0;
-    while i < s.len() {
-        a = put_octet(out, a, s[i]);
-        i += 1;
+    for o in s {
+        a = put_octet(out, a, *o);
     }
     a
 }
@@ -125,13 +107,8 @@ fn hex_fill(s: &[u8], out: &mut [u8])
     requires { (hex_good s.now ≡ true) × (length s.now / 2 ≤ length out.old) }
     ensures { out.new ≡ sets out.old 0 (octets_of s.now) }
 {
-    let n = s.len() / 2;
-    let mut i = 0;
-    let mut j = 0;
-    while i < n {
-        out[i] = pair(s[j], s[j + 1]);
-        i += 1;
-        j += 2;
+    for i in 0..s.len() / 2 {
+        out[i] = pair(s[2 * i], s[2 * i + 1]);
     }
 }
 
@@ -154,31 +131,14 @@ pub fn parse_hex(s: &[u8], out: &mut [u8]) -> Hex
 pub fn word_end(s: &[u8]) -> usize
     ensures { WordEnds s.now result }
 {
-    let mut i = 0;
-    while i < s.len() {
-        if s[i] == 32 {
-            return i;
-        }
-        i += 1;
-    }
-    i
+    s.iter().position(|c| *c == b' ').unwrap_or(s.len())
 }
 
 // The same text.
 pub fn same(a: &[u8], b: &[u8]) -> bool
     ensures { result ≡ same_text a.now b.now }
 {
-    let mut i = 0;
-    while i < a.len() {
-        if i >= b.len() {
-            return false;
-        }
-        if a[i] != b[i] {
-            return false;
-        }
-        i += 1;
-    }
-    i == b.len()
+    a == b
 }
 
 #[derive(Drop)]
@@ -208,7 +168,5 @@ pub fn put_decimal(out: &mut [u8], at: usize, n: u64) -> usize
     ensures { Writes (page out.old at) (decimal n) (page out.new result) }
 {
     let s = spell(n);
-    let text = s.text;
-    let from = s.from;
-    put_text(out, at, &text[from..])
+    put_text(out, at, &s.text[s.from..])
 }

@@ -9,14 +9,10 @@ use crate::{least, put_decimal, put_text, same};
 fn word_at<'a>(text: &'a [u8], begins: &[usize], n: usize) -> &'a [u8]
     ensures { result.now ≡ word_at (words_of text.now begins.now) n }
 {
-    if begins.len() <= n {
+    if begins.len().saturating_sub(1) <= n {
         return &text[..0];
     }
-    let next = n + 1;
-    if begins.len() <= next {
-        return &text[..0];
-    }
-    let to = least(begins[next], text.len());
+    let to = least(begins[n + 1], text.len());
     let from = least(begins[n], to);
     &text[from..to]
 }
@@ -32,12 +28,10 @@ pub fn put_word(out: &mut [u8], at: usize, text: &[u8], begins: &[usize], n: usi
 pub fn find(w: &[u8], text: &[u8], begins: &[usize]) -> usize
     ensures { result ≡ found_from 0 w.now (words_of text.now begins.now) }
 {
-    let mut n = 0;
-    while n + 1 < begins.len() {
+    for n in 0..begins.len().saturating_sub(1) {
         if same(w, word_at(text, begins, n)) {
             return n;
         }
-        n += 1;
     }
     0
 }

@@ -1,7 +1,7 @@
 use Rattle.text.specs.Text.{decimal_onto}
 use Rattle.text.specs.Text.{decimal}
 use lib.ListN.{length, drop}
-use Prim.Native.Nat.{◌-◌, ◌≤◌}
+use Prim.Native.Nat.{◌≤◌}
 use mathlib.Core.Path.{◌≡◌}
 use Rattle.text.proofs.spell.Given as goal
 
