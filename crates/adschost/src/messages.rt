@@ -1,10 +1,10 @@
 // PDUs to flat numbers and back.
 ghost use Rattle.std.specs.Prelude.{◌≡◌};
+ghost use Rattle.per.specs.Places.{told};
 ghost use Rattle.per.specs.Pdu.{read_pdu};
 ghost use Rattle.per.specs.Writing.{write_pdu};
 ghost use Rattle.pdu.specs.UplinkTable.{ground_c};
 ghost use Rattle.pdu.specs.DownlinkTable.{air_c};
-ghost use Rattle.pdu.specs.Answers.{air_reading, ground_reading};
 ghost use Rattle.host_numbers.specs.UplinkNumbers.{ground_at};
 ghost use Rattle.host_numbers.specs.DownlinkNumbers.{air_at};
 ghost use Rattle.adschost.specs.Flatness.{air_shown, ShowsAir, ground_shown, ShowsGround, number_of, length_of, WritesFlat};
@@ -13,63 +13,58 @@ use host_numbers::copy::{copy_numbers, put_items};
 use host_numbers::downlink::{air_at, flat_air};
 use host_numbers::places::{A_NUMBERS, G_NUMBERS};
 use host_numbers::uplink::{flat_ground, ground_at};
-use pdu::{AirAnswer, GroundAnswer, decode_air, decode_ground, encode_air, encode_ground};
-use per::pen::Written;
-use refusals::NO_ROOM;
+use pdu::{decode_air, decode_ground, encode_air, encode_ground};
+use refusals::Refusal;
 
 // An aircraft PDU as 40 numbers and the 128 octets of its list.
 pub fn adsc_read_air(octets: &[u8], numbers: &mut [u32], list: &mut [u8]) -> u8
-    ensures { ShowsAir (air_shown (air_reading (read_pdu air_c octets.now)) numbers.old list.old) result numbers.new list.new }
+    ensures { ShowsAir (air_shown (read_pdu air_c octets.now) numbers.old list.old) result numbers.new list.new }
 {
-    let r = decode_air(octets);
-    let answer = r.answer;
-    match answer {
-        AirAnswer::Good(kind) => {
+    match decode_air(octets) {
+        Ok(pdu) => {
             if numbers.len() < A_NUMBERS {
-                return NO_ROOM;
+                return Refusal::NoRoom.number();
             }
             if list.len() < 128 {
-                return NO_ROOM;
+                return Refusal::NoRoom.number();
             }
-            let listed = r.list;
-            let items = listed.items;
-            let flat = flat_air(kind, listed.count);
+            let listed = pdu.list;
+            let flat = flat_air(pdu.kind, listed.count);
             copy_numbers(&flat, numbers);
-            put_items(&items, list);
+            put_items(&listed.items, list);
             0
         }
-        AirAnswer::Refused(n) => n,
+        Err(refusal) => refusal.number(),
     }
 }
 
 // A ground PDU as numbers.
 pub fn adsc_read_ground(octets: &[u8], numbers: &mut [u32]) -> u8
-    ensures { ShowsGround (ground_shown (ground_reading (read_pdu ground_c octets.now)) numbers.old) result numbers.new }
+    ensures { ShowsGround (ground_shown (read_pdu ground_c octets.now) numbers.old) result numbers.new }
 {
-    let answer = decode_ground(octets);
-    match answer {
-        GroundAnswer::Good(g) => {
+    match decode_ground(octets) {
+        Ok(g) => {
             if numbers.len() < G_NUMBERS {
-                return NO_ROOM;
+                return Refusal::NoRoom.number();
             }
             let flat = flat_ground(g);
             copy_numbers(&flat, numbers);
             0
         }
-        GroundAnswer::Refused(n) => n,
+        Err(refusal) => refusal.number(),
     }
 }
 
-// 0 and how many octets were written, or the refusal and the number that stood there.
-fn tell(w: Written, written: &mut usize) -> u8
-    ensures { (result ≡ number_of w) × (written.new ≡ length_of w written.old) }
+// 0 and how many octets were written, or the refusal's number and the length that stood there.
+fn tell(w: Result<usize, Refusal>, written: &mut usize) -> u8
+    ensures { (result ≡ number_of (told w)) × (written.new ≡ length_of (told w) written.old) }
 {
     match w {
-        Written::Octets(n) => {
+        Ok(n) => {
             *written = n;
             0
         }
-        Written::Refused(n) => n,
+        Err(refusal) => refusal.number(),
     }
 }
 

@@ -3,7 +3,6 @@ ghost use Rattle.per.specs.Pdu.{read_pdu};
 ghost use Rattle.per.specs.Writing.{write_pdu};
 ghost use Rattle.pdu.specs.UplinkTable.{ground_c};
 ghost use Rattle.pdu.specs.DownlinkTable.{air_c};
-ghost use Rattle.pdu.specs.Answers.{air_reading, ground_reading};
 ghost use Rattle.host_numbers.specs.UplinkNumbers.{ground_at};
 ghost use Rattle.host_numbers.specs.DownlinkNumbers.{air_at};
 ghost use Rattle.adschost.specs.Flatness.{air_shown, ShowsAir, ground_shown, ShowsGround, WritesFlat};
@@ -11,7 +10,7 @@ ghost use Rattle.adschost.specs.Flatness.{air_shown, ShowsAir, ground_shown, Sho
 // An aircraft PDU as 40 numbers and the 128 octets of its list.
 #[unsafe(no_mangle)]
 pub extern "C" fn adsc_read_air(octets: &[u8], numbers: &mut [u32], list: &mut [u8]) -> u8
-    ensures { ShowsAir (air_shown (air_reading (read_pdu air_c octets.now)) numbers.old list.old) result numbers.new list.new }
+    ensures { ShowsAir (air_shown (read_pdu air_c octets.now) numbers.old list.old) result numbers.new list.new }
 {
     adschost::messages::adsc_read_air(octets, numbers, list)
 }
@@ -19,7 +18,7 @@ pub extern "C" fn adsc_read_air(octets: &[u8], numbers: &mut [u32], list: &mut [
 // A ground PDU as numbers.
 #[unsafe(no_mangle)]
 pub extern "C" fn adsc_read_ground(octets: &[u8], numbers: &mut [u32]) -> u8
-    ensures { ShowsGround (ground_shown (ground_reading (read_pdu ground_c octets.now)) numbers.old) result numbers.new }
+    ensures { ShowsGround (ground_shown (read_pdu ground_c octets.now) numbers.old) result numbers.new }
 {
     adschost::messages::adsc_read_ground(octets, numbers)
 }

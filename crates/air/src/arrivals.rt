@@ -14,10 +14,10 @@ use air_tables::names::*;
 use link::actions::*;
 use link::executor::{begin, perform};
 use link::moves::*;
+use pdu::decode_ground;
 use pdu::downlink::Air;
 use pdu::reasons::{INVALID_PDU, SEQUENCE_ERROR};
 use pdu::uplink::Ground;
-use pdu::{GroundAnswer, decode_ground};
 use refusals::{BAD_RECORD, CANNOT_OCCUR};
 
 // The ack of a cancel, where the move sends.
@@ -51,8 +51,7 @@ fn pass(l: AirLink, li: u8, event: u8) -> Answer
 fn take(l: AirLink, li: u8, octets: &[u8]) -> Answer
     ensures { result ≡ taken l li (read_pdu ground_c octets.now) }
 {
-    let answer = decode_ground(octets);
-    let GroundAnswer::Good(g) = answer else {
+    let Ok(g) = decode_ground(octets) else {
         return abort(l, INVALID_PDU);
     };
     let event = uplink_event(g);
@@ -108,8 +107,7 @@ fn end(l: AirLink, told: bool, sent: Sent) -> Answer
 fn cancel_all(l: AirLink, octets: &[u8]) -> Answer
     ensures { result ≡ all_cancelled l (read_pdu ground_c octets.now) }
 {
-    let answer = decode_ground(octets);
-    let GroundAnswer::Good(g) = answer else {
+    let Ok(g) = decode_ground(octets) else {
         return abort(l, INVALID_PDU);
     };
     match g {

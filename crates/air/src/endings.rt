@@ -10,8 +10,8 @@ use air_answer::events::reason_in;
 use air_answer::record::AirLink;
 use air_tables::names::*;
 use link::actions::*;
+use pdu::decode_ground;
 use pdu::reasons::{PROVIDER_FAILURE, UNDEFINED_ERROR};
-use pdu::{GroundAnswer, decode_ground};
 use refusals::CANNOT_OCCUR;
 
 pub fn peer_abort(l: AirLink) -> Answer
@@ -25,8 +25,7 @@ pub fn peer_abort(l: AirLink) -> Answer
 fn reason_of(octets: &[u8]) -> u32
     ensures { result ≡ reason_of (read_pdu ground_c octets.now) }
 {
-    let answer = decode_ground(octets);
-    let GroundAnswer::Good(g) = answer else {
+    let Ok(g) = decode_ground(octets) else {
         return UNDEFINED_ERROR;
     };
     reason_in(g)

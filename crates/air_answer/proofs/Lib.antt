@@ -1,4 +1,3 @@
 pub mod Outgoings
 pub mod Tags
 pub mod Own
-pub mod Readings

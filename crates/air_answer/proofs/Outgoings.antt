@@ -6,8 +6,9 @@ use native.Mathlib.Omega.{arith}
 use lib.ListN.{length, replicate}
 use Rattle.per.specs.Pdu.{encode}
 use Rattle.per.proofs.RoundTrip.{length-encode}
-use Rattle.per.specs.declared.pen.Written.{Written}
-use Rattle.per.specs.declared.pen.Written.TheVariants.{Octets, Refused}
+use Rattle.std.specs.Prelude.{Result, Ok, Err}
+use Rattle.refusals.specs.declared.Refusal.{Refusal}
+use Rattle.refusals.specs.Refusals.{number}
 use Rattle.pdu.specs.declared.downlink.AirPdu.{AirPdu}
 use Rattle.pdu.specs.DownlinkTable.{air_c}
 use Rattle.pdu.proofs.DownlinkBounds.{air-most}
@@ -18,15 +19,15 @@ use Rattle.air_answer.specs.Sent.{sent, letter_of, outgoing}
 has_room : (a : AirPdu) → length (encode air_c a) ≤ 115
 has_room a = omega (arith, length-encode air_c a, air-most.bits a)
 
-pub letter-goes : (a : AirPdu) {w : Written} {t : List ℕ} (n : ℕ) → w ≡ Octets n → Sends air_c a (replicate 115 0) w t
+pub letter-goes : (a : AirPdu) {w : Result ℕ Refusal} {t : List ℕ} (n : ℕ) → w ≡ Ok n → Sends air_c a (replicate 115 0) w t
     → record { refusal = 0; sent = record { n = n; octets = t } } ≡ outgoing a
 unfolding outgoing letter_of sent
 letter-goes a n e s =
     let r = room-goes air_c 115 a (has_room a) n e s in
     rw r.fields (λ i. record { refusal = 0; sent = record { n = r.counted i; octets = r.octets i } })
 
-pub letter-stays : (a : AirPdu) {w : Written} {t : List ℕ} (n : ℕ) → w ≡ Refused n → Sends air_c a (replicate 115 0) w t
-    → record { refusal = n; sent = sent [] } ≡ outgoing a
+pub letter-stays : (a : AirPdu) {w : Result ℕ Refusal} {t : List ℕ} (n : Refusal) → w ≡ Err n → Sends air_c a (replicate 115 0) w t
+    → record { refusal = number n; sent = sent [] } ≡ outgoing a
 unfolding outgoing letter_of
 letter-stays a n e s =
     let r = room-stays air_c 115 a (has_room a) n e s in

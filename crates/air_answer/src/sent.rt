@@ -6,7 +6,6 @@ ghost use Rattle.air_answer.specs.Sent.{sent, outgoing};
 use pdu::downlink::{Air, AirPdu};
 use pdu::encode_air;
 use pdu_parts::lists::no_list;
-use per::pen::Written;
 
 // The most octets of an aircraft PDU: those of a negative ack with 16 names, which has 916 bits.
 pub const ROOM: usize = 115;
@@ -41,13 +40,16 @@ pub fn write(a: AirPdu) -> Outgoing
     let mut octets = [0u8; ROOM];
     let w = encode_air(a, &mut octets);
     match w {
-        Written::Octets(n) => {
+        Ok(n) => {
             let sent = Sent { n, octets };
             Outgoing { refusal: 0, sent }
         }
-        Written::Refused(refusal) => {
+        Err(refusal) => {
             let sent = nothing();
-            Outgoing { refusal, sent }
+            Outgoing {
+                refusal: refusal.number(),
+                sent,
+            }
         }
     }
 }

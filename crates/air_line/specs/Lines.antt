@@ -5,7 +5,6 @@ use Rattle.pdu_parts.specs.Lists.{no_list}
 use Rattle.pdu_parts.specs.declared.lists.Listed.{Listed}
 use Rattle.pdu.specs.declared.downlink.AirPdu.{AirPdu}
 use Rattle.pdu.specs.DownlinkTable.{air_c}
-use Rattle.pdu.specs.declared.AirAnswer as air
 use Rattle.text.specs.Text.{pick}
 use Rattle.air.specs.declared.call.Call.{Call}
 use Rattle.air.specs.declared.call.Call.TheVariants.{Request, UserAbort, Elapse, StartInd, Data, EndInd, PeerAbort, GroundAbort, Down}
@@ -70,6 +69,6 @@ parsed_in l o = parsed_with l.call l.list o
 abbrev pub bare_line : LineCall → AirLine
 bare_line c = record { call = c; list = no_list }
 
-unfoldable pub request_call : air.AirAnswer → LineCall
-request_call (air.TheVariants.Good kind) = Makes (Request kind) 0
-request_call (air.TheVariants.Refused n) = Unread
+unfoldable pub request_line : Answer AirPdu → AirLine
+request_line (got a) = record { call = Makes (Request a.kind) 0; list = a.list }
+request_line (refused n) = bare_line Unread

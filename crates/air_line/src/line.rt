@@ -1,11 +1,14 @@
 // The call that a line asks of the air link.
 ghost use Rattle.std.specs.Prelude.{◌≡◌, List, ℕ, length, take};
 ghost use Rattle.pdu_parts.specs.Lists.{no_list};
-ghost use Rattle.air_line.specs.Lines.{parsed_with, parsed_in, bare_line, request_call, plain_call, octets_call, number_call, parsed_into};
+ghost use Rattle.pdu.specs.Answers.{heard};
+ghost use Rattle.air_line.specs.Lines.{parsed_with, parsed_in, bare_line, request_line, plain_call, octets_call, number_call, parsed_into};
 
 use air::call::Call;
-use pdu::{AirAnswer, AirReading, decode_air};
+use pdu::decode_air;
+use pdu::downlink::AirPdu;
 use pdu_parts::lists::{Listed, no_list};
+use refusals::Refusal;
 use script::line::{ALONE, HEX, Held, NEVER, NUMBER, read_line};
 use text::least;
 
@@ -50,22 +53,16 @@ fn bare(call: LineCall) -> AirLine
 }
 
 // A request is an aircraft PDU that reads.
-fn request_call(a: AirAnswer) -> LineCall
-    ensures { result ≡ request_call a }
+fn request_line(r: Result<AirPdu, Refusal>) -> AirLine
+    ensures { result ≡ request_line (heard r) }
 {
-    match a {
-        AirAnswer::Good(kind) => LineCall::Makes(Call::Request(kind), 0),
-        AirAnswer::Refused(_) => LineCall::Unread,
+    match r {
+        Ok(pdu) => AirLine {
+            call: LineCall::Makes(Call::Request(pdu.kind), 0),
+            list: pdu.list,
+        },
+        Err(_) => bare(LineCall::Unread),
     }
-}
-
-fn request_line(r: AirReading) -> AirLine
-    ensures { result ≡ record { call = request_call r.answer; list = r.list } }
-{
-    let answer = r.answer;
-    let list = r.list;
-    let call = request_call(answer);
-    AirLine { call, list }
 }
 
 // The call of word w that has no list, with the first n octets.

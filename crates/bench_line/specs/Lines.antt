@@ -3,7 +3,6 @@ use Rattle.std.specs.Prelude.{List, [], ℕ, eqb, take}
 use Rattle.per.specs.Pdu.{Answer, got, refused, read_pdu}
 use Rattle.pdu.specs.declared.uplink.Ground.{Ground}
 use Rattle.pdu.specs.UplinkTable.{ground_c}
-use Rattle.pdu.specs.declared.GroundAnswer as ground
 use Rattle.text.specs.Text.{pick}
 use Rattle.ground.specs.declared.call.Call.{Call}
 use Rattle.ground.specs.declared.call.Call.TheVariants.{Request, UserAbort, Elapse, StartConfirm, StartRejected, Data, EndConfirm, PeerAbort, AirAbort, Down}
@@ -51,6 +50,6 @@ unfoldable pub parsed_in : LineCall → List ℕ → Parsed Call
 parsed_in (Makes c n) o = makes c (take n o)
 parsed_in Unread o = unread
 
-unfoldable pub request_call : ground.GroundAnswer → LineCall
-request_call (ground.TheVariants.Good g) = Makes (Request g) 0
-request_call (ground.TheVariants.Refused n) = Unread
+unfoldable pub request_call : Answer Ground → LineCall
+request_call (got g) = Makes (Request g) 0
+request_call (refused n) = Unread

@@ -1,12 +1,15 @@
 // The call that a line asks.
 ghost use Rattle.std.specs.Prelude.{◌≡◌, List, ℕ, length, get_or, take};
+ghost use Rattle.pdu.specs.Answers.{heard};
 ghost use Rattle.script.specs.Fields.{held_in};
 ghost use Rattle.script.specs.Lines.{call_of, shapes_of};
 ghost use Rattle.bench_line.specs.Words.{ground_words};
 ghost use Rattle.bench_line.specs.Lines.{ground_script, parsed_in, request_call, octets_call, number_call, parsed_into};
 
 use ground::call::Call;
-use pdu::{GroundAnswer, decode_ground};
+use pdu::decode_ground;
+use pdu::uplink::Ground;
+use refusals::Refusal;
 use script::line::{ALONE, HEX, Held, NEVER, NUMBER, read_line, shape_at};
 use text::least;
 
@@ -51,12 +54,12 @@ pub enum LineCall {
 }
 
 // A request is a ground PDU that reads.
-fn request_call(a: GroundAnswer) -> LineCall
-    ensures { result ≡ request_call a }
+fn request_call(a: Result<Ground, Refusal>) -> LineCall
+    ensures { result ≡ request_call (heard a) }
 {
     match a {
-        GroundAnswer::Good(g) => LineCall::Makes(Call::Request(g), 0),
-        GroundAnswer::Refused(_) => LineCall::Unread,
+        Ok(g) => LineCall::Makes(Call::Request(g), 0),
+        Err(_) => LineCall::Unread,
     }
 }
 

@@ -15,9 +15,9 @@ use link::actions::DATA_REQUEST;
 use link::executor::{Step, add, begin, perform};
 use link::moves::{GOES, Move};
 use link::watch::all_idle;
+use pdu::decode_air;
 use pdu::reasons::{INVALID_PDU, SEQUENCE_ERROR};
 use pdu::uplink::Ground;
-use pdu::{AirAnswer, decode_air};
 use refusals::{BAD_RECORD, CANNOT_OCCUR};
 
 // The emergency ack, where the move sends.
@@ -66,12 +66,10 @@ fn pass(l: Link, event: u8) -> Answer
 fn take(l: Link, octets: &[u8]) -> Answer
     ensures { result ≡ taken l (read_pdu air_c octets.now) }
 {
-    let reading = decode_air(octets);
-    let answer = reading.answer;
-    let AirAnswer::Good(kind) = answer else {
+    let Ok(pdu) = decode_air(octets) else {
         return abort(l, INVALID_PDU);
     };
-    pass(l, air_event(kind))
+    pass(l, air_event(pdu.kind))
 }
 
 // The accepted answer to our start, with its data.

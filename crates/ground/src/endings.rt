@@ -12,8 +12,8 @@ use ground_tables::decide::li_over;
 use ground_tables::names::*;
 use link::actions::{ABORT_IND, PEER_ABORT_IND};
 use link::executor::{begin, perform};
+use pdu::decode_air;
 use pdu::reasons::{NO_CONTACT, PROVIDER_FAILURE, UNDEFINED_ERROR};
-use pdu::{AirAnswer, decode_air};
 use refusals::{BAD_RECORD, CANNOT_OCCUR};
 
 // A rejected start: abort 5, with no abort request.
@@ -35,12 +35,10 @@ pub fn peer_abort(l: Link) -> Answer
 fn reason_of(octets: &[u8]) -> u32
     ensures { result ≡ reason_of (read_pdu air_c octets.now) }
 {
-    let reading = decode_air(octets);
-    let answer = reading.answer;
-    let AirAnswer::Good(kind) = answer else {
+    let Ok(pdu) = decode_air(octets) else {
         return UNDEFINED_ERROR;
     };
-    reason_in(kind)
+    reason_in(pdu.kind)
 }
 
 // The aircraft's provider aborts.

@@ -3,4 +3,3 @@ pub mod Asking
 pub mod Outgoings
 pub mod AbortReasons
 pub mod Own
-pub mod Readings

@@ -2,8 +2,9 @@
 use Rattle.std.proofs.Common.{◌≡◌, ℕ, ◌≤◌, List, [], length, replicate, arith}
 use Rattle.per.specs.Pdu.{encode}
 use Rattle.per.proofs.RoundTrip.{length-encode}
-use Rattle.per.specs.declared.pen.Written.{Written}
-use Rattle.per.specs.declared.pen.Written.TheVariants.{Octets, Refused}
+use Rattle.std.specs.Prelude.{Result, Ok, Err}
+use Rattle.refusals.specs.declared.Refusal.{Refusal}
+use Rattle.refusals.specs.Refusals.{number}
 use Rattle.pdu.specs.declared.uplink.Ground.{Ground}
 use Rattle.pdu.specs.UplinkTable.{ground_c}
 use Rattle.pdu.proofs.UplinkBounds.{ground-most}
@@ -14,15 +15,15 @@ use Rattle.ground_answer.specs.Sent.{SENT-MOST, sent, letter_of, outgoing}
 has_room : (g : Ground) → length (encode ground_c g) ≤ SENT-MOST
 has_room g = omega (arith, length-encode ground_c g, ground-most.bits g)
 
-pub letter-goes : (g : Ground) {w : Written} {t : List ℕ} (n : ℕ) → w ≡ Octets n → Sends ground_c g (replicate SENT-MOST 0) w t
+pub letter-goes : (g : Ground) {w : Result ℕ Refusal} {t : List ℕ} (n : ℕ) → w ≡ Ok n → Sends ground_c g (replicate SENT-MOST 0) w t
     → record { refusal = 0; sent = record { n = n; octets = t } } ≡ outgoing g
 unfolding outgoing letter_of sent
 letter-goes g n e s =
     let r = room-goes ground_c SENT-MOST g (has_room g) n e s in
     rw r.fields (λ i. record { refusal = 0; sent = record { n = r.counted i; octets = r.octets i } })
 
-pub letter-stays : (g : Ground) {w : Written} {t : List ℕ} (n : ℕ) → w ≡ Refused n → Sends ground_c g (replicate SENT-MOST 0) w t
-    → record { refusal = n; sent = sent [] } ≡ outgoing g
+pub letter-stays : (g : Ground) {w : Result ℕ Refusal} {t : List ℕ} (n : Refusal) → w ≡ Err n → Sends ground_c g (replicate SENT-MOST 0) w t
+    → record { refusal = number n; sent = sent [] } ≡ outgoing g
 unfolding outgoing letter_of
 letter-stays g n e s =
     let r = room-stays ground_c SENT-MOST g (has_room g) n e s in

@@ -4,7 +4,6 @@ ghost use Rattle.ground_answer.specs.Sent.{sent, outgoing};
 
 use pdu::encode_ground;
 use pdu::uplink::Ground;
-use per::pen::Written;
 
 // No ground PDU is longer: an event contract with every element has 129 bits.
 pub const SENT_MOST: usize = 17;
@@ -39,13 +38,16 @@ pub fn write(g: Ground) -> Outgoing
     let mut octets = [0u8; SENT_MOST];
     let w = encode_ground(g, &mut octets);
     match w {
-        Written::Octets(n) => {
+        Ok(n) => {
             let sent = Sent { n, octets };
             Outgoing { refusal: 0, sent }
         }
-        Written::Refused(refusal) => {
+        Err(refusal) => {
             let sent = nothing();
-            Outgoing { refusal, sent }
+            Outgoing {
+                refusal: refusal.number(),
+                sent,
+            }
         }
     }
 }

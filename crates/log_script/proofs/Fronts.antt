@@ -9,8 +9,9 @@ use lib.ListN.{length, take}
 use lib.Seq.{sets, sets-eq, take_at}
 use Rattle.per.specs.Pdu.{encode}
 use Rattle.per.specs.Writing.{write_pdu, sent}
-use Rattle.per.specs.declared.pen.Written.{Written}
-use Rattle.per.specs.declared.pen.Written.TheVariants.{Octets, Refused}
+use Rattle.std.specs.Prelude.{Result, Ok, Err}
+use Rattle.refusals.specs.declared.Refusal.{Refusal}
+use Rattle.per.specs.Places.{Octets, told}
 use Rattle.per.proofs.Longest.{up}
 use Rattle.per.proofs.RoundTrip.{length-encode}
 use Rattle.pdu.specs.declared.uplink.Ground.{Ground}
@@ -34,18 +35,19 @@ module _ (g : Ground) (o : List ℕ) (ok : ground_c.chk g ≡ 0) (room : 2048 �
       let fits : length (encode ground_c g) ≤ length o = omega (arith, length-encode ground_c g, m) in
       rw (ok, le-leb _ _ fits)
 
-  module _ (w : Written) (p : List ℕ) (is : Sends ground_c g o w p) where
-    answer_is : w ≡ Octets (length (encode ground_c g))
+  module _ (w : Result ℕ Refusal) (p : List ℕ) (is : Sends ground_c g o w p) where
+    answer_is : told w ≡ Octets (length (encode ground_c g))
     answer_is = is.answer_is ∙ ap (λ d. d.answer) written
 
-    pub request-front : (n : ℕ) → w ≡ Octets n → take n p ≡ encode ground_c g
+    pub request-front : (n : ℕ) → w ≡ Ok n → take n p ≡ encode ground_c g
     request-front n e =
         let z = answer_is in
+        let y = ap told e in
         let same : length (encode ground_c g) ≡ n = cc in
         ap (take n) (is.octets_are ∙ ap (λ d. d.octets) written) ∙ take_at (encode ground_c g) _ n same
 
-    pub request-goes : (n : ℕ) → w ≡ Refused n → ⊥
-    request-goes n e = let z = answer_is in let u : ◌≡◌ {A = ℕ} 0 1 = cc in omega arith
+    pub request-goes : (n : Refusal) → w ≡ Err n → ⊥
+    request-goes n e = let z = answer_is in let y = ap told e in let u : ◌≡◌ {A = ℕ} 0 1 = cc in omega arith
 
 -- ---- a link record begins with its settings
 pub settings-front : (l : Link) → length l.setting ≡ timers → length l.left ≡ timers → (z r o p : List ℕ) → length z ≡ RECORD-OCTETS → r ≡ saved l z → 2048 ≤ length o → p ≡ sets o 0 r

@@ -23,7 +23,6 @@ use log_play::record::SETTINGS;
 use octets::put_octets;
 use pdu::encode_ground;
 use pdu::uplink::Ground;
-use per::pen::Written;
 use script::line::set_part;
 use text::least;
 
@@ -96,8 +95,8 @@ fn put_request(g: Ground, octets: &mut [u8]) -> usize
 {
     let w = encode_ground(g, octets);
     match w {
-        Written::Octets(n) => n,
-        Written::Refused(_) => 0,
+        Ok(n) => n,
+        Err(_) => 0,
     }
 }
 

@@ -10,7 +10,7 @@ use crate::elements::*;
 use crate::interval::{Interval, is_five, read_interval_if, write_interval_if};
 use per::cursor::{Cursor, Read, present};
 use per::pen::Pen;
-use refusals::OUT_OF_RANGE;
+use refusals::Refusal;
 
 // `elements` are the presence bits of the moduli, in the report's order; whether the interval is sent follows from it.
 #[derive(Drop)]
@@ -64,7 +64,7 @@ pub fn write_periodic(p: Pen, out: &mut [u8; 128], a: Periodic) -> Pen
     let interval = a.interval;
     let five = is_five(interval);
     if REPORT_BITS < a.elements {
-        return p.refuse(OUT_OF_RANGE);
+        return p.refuse(Refusal::OutOfRange);
     }
     let v = bits_of(five, a.elements);
     let p = p.mask(out, v, PERIODIC_BITS, PERIODIC_CARRIED, false);

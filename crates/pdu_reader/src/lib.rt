@@ -2,17 +2,19 @@
 #![tactic(auto)]
 
 ghost use Rattle.std.specs.Prelude.{◌≡◌};
+ghost use Rattle.per.specs.Places.{seen};
 ghost use Rattle.per.specs.Pdu.{window, finish, read_pdu};
 ghost use Rattle.per.specs.Formats.{run, num, flag, extension, signed, mask, index, count, when};
 ghost use Rattle.per.specs.Reading.{Reads};
 ghost use Rattle.pdu.specs.DownlinkTable.{air_c};
 ghost use Rattle.pdu.specs.UplinkTable.{ground_c};
-ghost use Rattle.pdu.specs.Answers.{air_reading, ground_reading};
+ghost use Rattle.pdu.specs.Answers.{heard};
 
+use pdu::answer;
 use pdu::downlink::{AirPdu, read_air};
 use pdu::uplink::{Ground, read_ground};
-use pdu::{AirReading, GroundAnswer, answer_air, answer_ground};
 use per::cursor::{Cursor, Read, Signed};
+use refusals::Refusal;
 
 // The octets of a PDU, and the place in them with the first refusal met.
 #[derive(Drop)]
@@ -94,7 +96,7 @@ impl<'a> Reader<'a> {
 
     // What is left after the PDU: 13 for filling that is not zero, 14 for octets behind it.
     pub fn finish(self) -> Cursor
-        ensures { result ≡ finish (window self.entry.octets.now) self.entry.place }
+        ensures { seen result ≡ finish (window self.entry.octets.now) (seen self.entry.place) }
     {
         self.place.finish(self.octets)
     }
@@ -138,27 +140,25 @@ fn ground_from(place: Cursor, octets: &[u8]) -> Read<Ground>
 }
 
 fn end_from(place: Cursor, octets: &[u8]) -> Cursor
-    ensures { result ≡ finish (window octets.now) place }
+    ensures { seen result ≡ finish (window octets.now) (seen place) }
 {
     Reader::new(octets, place).finish()
 }
 
 // The whole of an aircraft PDU's octets, read through the reader: the answer is `pdu::decode_air`'s.
-pub fn held_air(octets: &[u8]) -> AirReading
-    ensures { result ≡ air_reading (read_pdu air_c octets.now) }
+pub fn held_air(octets: &[u8]) -> Result<AirPdu, Refusal>
+    ensures { heard result ≡ read_pdu air_c octets.now }
 {
     let a = air_from(Cursor::start(octets), octets);
     let end = end_from(a.next, octets);
-    let pdu = a.value;
-    answer_air(pdu, end.refusal)
+    answer(a.value, end.refusal)
 }
 
 // The whole of a ground PDU's octets, read through the reader: the answer is `pdu::decode_ground`'s.
-pub fn held_ground(octets: &[u8]) -> GroundAnswer
-    ensures { result ≡ ground_reading (read_pdu ground_c octets.now) }
+pub fn held_ground(octets: &[u8]) -> Result<Ground, Refusal>
+    ensures { heard result ≡ read_pdu ground_c octets.now }
 {
     let g = ground_from(Cursor::start(octets), octets);
     let end = end_from(g.next, octets);
-    let value = g.value;
-    answer_ground(value, end.refusal)
+    answer(g.value, end.refusal)
 }

@@ -15,16 +15,14 @@ use Rattle.text.proofs.Laws.{decimal-length}
 use Rattle.text.proofs.Lengths.{hex-length, refused-length, of_two}
 use Rattle.text.proofs.Pages.{stands}
 use Rattle.per.specs.Codec.{Codec, first, unless}
-use Rattle.per.specs.Pdu.{read_pdu, encode}
+use Rattle.per.specs.Pdu.{Answer, got, refused, read_pdu, encode}
 use Rattle.per.specs.Writing.{delivered, write_pdu}
 use Rattle.pdu_parts.specs.declared.lists.Listed.{Listed}
 use Rattle.pdu.specs.UplinkTable.{ground_c}
 use Rattle.pdu.specs.DownlinkTable.{air_c}
-use Rattle.pdu.specs.Answers.{air_reading, ground_reading}
 use Rattle.pdu.specs.declared.downlink.Air.{Air}
+use Rattle.pdu.specs.declared.downlink.AirPdu.{AirPdu}
 use Rattle.pdu.specs.declared.uplink.Ground.{Ground}
-use Rattle.pdu.specs.declared.AirAnswer as air
-use Rattle.pdu.specs.declared.GroundAnswer as ground
 use Rattle.host_numbers.specs.DownlinkNumbers.{flat_air}
 use Rattle.host_numbers.specs.UplinkNumbers.{flat_ground}
 use Rattle.pdu_words.specs.Names.{refusal_words}
@@ -32,7 +30,7 @@ use Rattle.pdu_words.specs.Ways.{Way, nothing, number, two, three, seconds, tens
 use Rattle.pdu_words.specs.Rows.{Row, chosen, row_text, rows_text}
 use Rattle.pdu_words.specs.AirRows.{air_rows, air_words}
 use Rattle.pdu_words.specs.GroundRows.{ground_rows, ground_words}
-use Rattle.pdu_words.specs.LineText.{refused_line, written_text, coded_text, air_text, ground_text, air_answer, air_read, ground_read, family_of, pdu_text, spelled_text, tail_text, line_text, answer_text}
+use Rattle.pdu_words.specs.LineText.{refused_line, written_text, coded_text, air_text, ground_text, air_read, ground_read, family_of, pdu_text, spelled_text, tail_text, line_text, answer_text}
 use Rattle.pdu_words.specs.declared.lines.Task.{Task}
 use Rattle.pdu_words.specs.declared.lines.Task.TheVariants.{Code, Tell}
 
@@ -243,23 +241,22 @@ unfolding ground_text
 ground-good Code g = coded-length ground_c g
 ground-good Tell g = ground-length (flat_ground g)
 
-air-answer : (t : Task) (x : air.AirAnswer) (l : Listed) → length (air_answer t x l) ≤ 50000
-unfolding air_answer
-air-answer t (air.TheVariants.Good k) l = air-good t k l
-air-answer t (air.TheVariants.Refused n) l = line_refused t n
+air-answer : (t : Task) (x : Answer AirPdu) → length (air_read t x) ≤ 50000
+unfolding air_read
+air-answer t (got a) = air-good t a.kind a.list
+air-answer t (refused n) = line_refused t n
 
-ground-answer : (t : Task) (x : ground.GroundAnswer) → length (ground_read t x) ≤ 50000
+ground-answer : (t : Task) (x : Answer Ground) → length (ground_read t x) ≤ 50000
 unfolding ground_read
-ground-answer t (ground.TheVariants.Good g) = ground-good t g
-ground-answer t (ground.TheVariants.Refused n) = line_refused t n
+ground-answer t (got g) = ground-good t g
+ground-answer t (refused n) = line_refused t n
 
 -- and a line
 pdu-length : (t : Task) (w os : List ℕ) → length (pdu_text t w os) ≤ 50000
-unfolding pdu_text air_read
+unfolding pdu_text
 pdu-length t w os =
-    let r = air_reading (read_pdu air_c os) in
-    of_two (eqb (family_of w) 1) 50000 _ _ (air-answer t r.answer r.list)
-    (of_two (eqb (family_of w) 2) 50000 _ _ (ground-answer t (ground_reading (read_pdu ground_c os))) (line_refused t 17))
+    of_two (eqb (family_of w) 1) 50000 _ _ (air-answer t (read_pdu air_c os))
+    (of_two (eqb (family_of w) 2) 50000 _ _ (ground-answer t (read_pdu ground_c os)) (line_refused t 17))
 
 spelled-length : (t : Task) (w s : List ℕ) → length (spelled_text t w s) ≤ 50000
 unfolding spelled_text

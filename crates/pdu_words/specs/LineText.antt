@@ -7,18 +7,15 @@ use Rattle.text.specs.Text.{pick, hex_good, octets_of, hex_text, word_end}
 use Rattle.text.specs.Words.{word_at, found_from, refused_text}
 use Rattle.text.specs.declared.Hex as hex
 use Rattle.per.specs.Codec.{Codec}
-use Rattle.per.specs.Pdu.{read_pdu}
+use Rattle.per.specs.Pdu.{Answer, got, refused, read_pdu}
 use Rattle.per.specs.Writing.{write_pdu}
-use Rattle.per.specs.declared.pen.Written as written
+use Rattle.per.specs.Places.{Written, Octets, Refused}
 use Rattle.pdu_parts.specs.declared.lists.Listed.{Listed}
 use Rattle.pdu.specs.UplinkTable.{ground_c}
 use Rattle.pdu.specs.DownlinkTable.{air_c}
-use Rattle.pdu.specs.Answers.{air_reading, ground_reading}
 use Rattle.pdu.specs.declared.downlink.Air.{Air}
+use Rattle.pdu.specs.declared.downlink.AirPdu.{AirPdu}
 use Rattle.pdu.specs.declared.uplink.Ground.{Ground}
-use Rattle.pdu.specs.declared.AirReading.{AirReading}
-use Rattle.pdu.specs.declared.AirAnswer as air
-use Rattle.pdu.specs.declared.GroundAnswer as ground
 use Rattle.host_numbers.specs.DownlinkNumbers.{flat_air}
 use Rattle.host_numbers.specs.UplinkNumbers.{flat_ground}
 use Rattle.pdu_words.specs.Names.{refusal_words}
@@ -33,9 +30,9 @@ refused_line Code n = refused_text n
 refused_line Tell n = refused_text n ++ word_at refusal_words n
 
 -- `ok HEX`, the octets that writing gives, or `refused N`
-unfoldable pub written_text : written.Written → List ℕ → List ℕ
-written_text (written.TheVariants.Octets n) back = ascii "ok " ++ hex_text (take n back)
-written_text (written.TheVariants.Refused n) back = refused_text n
+unfoldable pub written_text : Written → List ℕ → List ℕ
+written_text (Octets n) back = ascii "ok " ++ hex_text (take n back)
+written_text (Refused n) back = refused_text n
 
 unfoldable pub coded_text : {A : Type 0} → Codec A → A → List ℕ
 coded_text c a = written_text (write_pdu c a (replicate 128 0)).answer (write_pdu c a (replicate 128 0)).octets
@@ -50,16 +47,13 @@ ground_text Code g = coded_text ground_c g
 ground_text Tell g = ground_words (flat_ground g)
 
 -- what reading gives
-unfoldable pub air_answer : Task → air.AirAnswer → Listed → List ℕ
-air_answer t (air.TheVariants.Good k) l = air_text t k l
-air_answer t (air.TheVariants.Refused n) l = refused_line t n
+unfoldable pub air_read : Task → Answer AirPdu → List ℕ
+air_read t (got a) = air_text t a.kind a.list
+air_read t (refused n) = refused_line t n
 
-unfoldable pub air_read : Task → AirReading → List ℕ
-air_read t r = air_answer t r.answer r.list
-
-unfoldable pub ground_read : Task → ground.GroundAnswer → List ℕ
-ground_read t (ground.TheVariants.Good g) = ground_text t g
-ground_read t (ground.TheVariants.Refused n) = refused_line t n
+unfoldable pub ground_read : Task → Answer Ground → List ℕ
+ground_read t (got g) = ground_text t g
+ground_read t (refused n) = refused_line t n
 
 -- the word of a line: 1 is `air`, 2 is `ground`
 unfoldable pub family_of : List ℕ → ℕ
@@ -68,8 +62,8 @@ family_of word = found_from 0 word ([] ∷ ascii "air" ∷ ascii "ground" ∷ []
 -- and the octets behind it
 unfoldable pub pdu_text : Task → List ℕ → List ℕ → List ℕ
 pdu_text t word octets =
-    pick (eqb (family_of word) 1) (air_read t (air_reading (read_pdu air_c octets)))
-    (pick (eqb (family_of word) 2) (ground_read t (ground_reading (read_pdu ground_c octets))) (refused_line t SCRIPT-LINE))
+    pick (eqb (family_of word) 1) (air_read t (read_pdu air_c octets))
+    (pick (eqb (family_of word) 2) (ground_read t (read_pdu ground_c octets)) (refused_line t SCRIPT-LINE))
 
 -- the octets as hexadecimal text
 unfoldable pub spelled_text : Task → List ℕ → List ℕ → List ℕ

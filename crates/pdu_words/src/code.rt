@@ -1,5 +1,6 @@
 // A PDU as its octets, written back from its value.
 ghost use Rattle.text.specs.Page.{page, Writes};
+ghost use Rattle.per.specs.Places.{told};
 ghost use Rattle.pdu.specs.DownlinkTable.{air_c};
 ghost use Rattle.pdu.specs.UplinkTable.{ground_c};
 ghost use Rattle.pdu_words.specs.LineText.{written_text, coded_text};
@@ -8,20 +9,20 @@ use crate::page::Page;
 use pdu::downlink::{Air, AirPdu};
 use pdu::uplink::Ground;
 use pdu_parts::lists::Listed;
-use per::pen::Written;
+use refusals::Refusal;
 use text::words::put_refused;
 use text_lines::input::shown;
 
-fn put_written(out: &mut Page, at: usize, w: Written, back: &[u8]) -> usize
-    ensures { Writes (page out.old at) (written_text w back.now) (page out.new result) }
+fn put_written(out: &mut Page, at: usize, w: Result<usize, Refusal>, back: &[u8]) -> usize
+    ensures { Writes (page out.old at) (written_text (told w) back.now) (page out.new result) }
 {
     match w {
-        Written::Octets(n) => {
+        Ok(n) => {
             let a = text::put_text(out, at, b"ok ");
             let m = shown(n, back);
             text::put_hex(out, a, &back[..m])
         }
-        Written::Refused(n) => put_refused(out, at, n),
+        Err(refusal) => put_refused(out, at, refusal.number()),
     }
 }
 

@@ -4,17 +4,16 @@ ghost use Rattle.text.specs.Page.{page, Writes};
 ghost use Rattle.per.specs.Pdu.{read_pdu};
 ghost use Rattle.pdu.specs.DownlinkTable.{air_c};
 ghost use Rattle.pdu.specs.UplinkTable.{ground_c};
-ghost use Rattle.pdu.specs.Answers.{air_reading, ground_reading};
+ghost use Rattle.pdu.specs.Answers.{heard};
 ghost use Rattle.pdu_words.specs.LineText.{refused_line, air_text, ground_text, air_read, ground_read, pdu_text, spelled_text, tail_text, line_text};
 
 use crate::lines::Task;
 use crate::page::Page;
 use crate::{code, tell};
-use pdu::downlink::Air;
+use pdu::downlink::{Air, AirPdu};
 use pdu::uplink::Ground;
-use pdu::{AirAnswer, AirReading, GroundAnswer};
 use pdu_parts::lists::Listed;
-use refusals::SCRIPT_LINE;
+use refusals::{Refusal, SCRIPT_LINE};
 use text::Hex;
 use text::words::{find, put_refused};
 use text_lines::input::shown;
@@ -38,21 +37,18 @@ fn put_air(task: Task, out: &mut Page, at: usize, kind: Air, list: Listed) -> us
     }
 }
 
-fn read_air(octets: &[u8]) -> AirReading
-    ensures { result ≡ air_reading (read_pdu air_c octets.now) }
+fn read_air(octets: &[u8]) -> Result<AirPdu, Refusal>
+    ensures { heard result ≡ read_pdu air_c octets.now }
 {
     pdu_reader::held_air(octets)
 }
 
 fn say_air(task: Task, out: &mut Page, at: usize, octets: &[u8]) -> usize
-    ensures { Writes (page out.old at) (air_read task (air_reading (read_pdu air_c octets.now))) (page out.new result) }
+    ensures { Writes (page out.old at) (air_read task (read_pdu air_c octets.now)) (page out.new result) }
 {
-    let r = read_air(octets);
-    let answer = r.answer;
-    let list = r.list;
-    match answer {
-        AirAnswer::Good(kind) => put_air(task, out, at, kind, list),
-        AirAnswer::Refused(n) => say_refused(task, out, at, n),
+    match read_air(octets) {
+        Ok(pdu) => put_air(task, out, at, pdu.kind, pdu.list),
+        Err(refusal) => say_refused(task, out, at, refusal.number()),
     }
 }
 
@@ -65,19 +61,18 @@ fn put_ground(task: Task, out: &mut Page, at: usize, g: Ground) -> usize
     }
 }
 
-fn read_ground(octets: &[u8]) -> GroundAnswer
-    ensures { result ≡ ground_reading (read_pdu ground_c octets.now) }
+fn read_ground(octets: &[u8]) -> Result<Ground, Refusal>
+    ensures { heard result ≡ read_pdu ground_c octets.now }
 {
     pdu_reader::held_ground(octets)
 }
 
 fn say_ground(task: Task, out: &mut Page, at: usize, octets: &[u8]) -> usize
-    ensures { Writes (page out.old at) (ground_read task (ground_reading (read_pdu ground_c octets.now))) (page out.new result) }
+    ensures { Writes (page out.old at) (ground_read task (read_pdu ground_c octets.now)) (page out.new result) }
 {
-    let answer = read_ground(octets);
-    match answer {
-        GroundAnswer::Good(g) => put_ground(task, out, at, g),
-        GroundAnswer::Refused(n) => say_refused(task, out, at, n),
+    match read_ground(octets) {
+        Ok(g) => put_ground(task, out, at, g),
+        Err(refusal) => say_refused(task, out, at, refusal.number()),
     }
 }
 

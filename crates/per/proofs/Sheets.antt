@@ -10,15 +10,17 @@ use lib.ListN.{length, get_or, set, take, drop, replicate, length-append, length
 use lib.Seq.{set-append_left, set-append_seam, set_at, drop-append-le, drop-cons, take-suc, length-take-le, append_snoc}
 use lib.Dec.{eqb, leb, ltb}
 use borrow.Author.Tests.{ltb-true, ltb-false, lt-ltb, le-leb, lt-leb}
-use Rattle.per.specs.declared.pen.Pen.{Pen}
-use Rattle.per.specs.declared.pen.Written.{Written}
-use Rattle.per.specs.declared.pen.Written.TheVariants.{Octets, Refused}
+use Rattle.std.specs.Prelude.{Result}
+use Rattle.refusals.specs.declared.Refusal.{Refusal}
+use Rattle.per.specs.declared.pen.Pen as pen
+use Rattle.per.specs.Places.{Pen, Octets, Refused}
+use Rattle.per.proofs.Seen.{told-alone}
 use Rattle.per.specs.Bits.{of_bit, to_bit, to_bits, bits_of, num_at}
 use Rattle.per.specs.laws.Bits.{num_at-lt, num-there, num-back, of_bit-lt, to-of, length-to_bits}
 use Rattle.per.specs.Codec.{Codec, first, unless}
 use Rattle.per.specs.laws.Codec.{first-not}
 use Rattle.per.specs.Pdu.{fill, pack, filled, encode}
-use Rattle.per.specs.Writing.{octet_with, set_bit, put_bits, onward, delivered, unsent, write_pdu, octets_for, deliver, Ink, ink, Writes, Delivers}
+use Rattle.per.specs.Writing.{octet_with, set_bit, put_bits, onward, delivered, unsent, write_pdu, octets_for, deliver, Ink, ink, Leaves, Hands, Delivers}
 use Rattle.per.proofs.Octets.{length-bits_of}
 use Rattle.per.proofs.Puts.{octet-with-is, octet-with-lt}
 use Rattle.per.proofs.RoundTrip.{pack-bits, length-filled, length-pack, length-encode}
@@ -168,7 +170,7 @@ module _ (p : Pen) (s o : List ℕ) where
   unsent-is zero pdu h = absurd (h refl)
   unsent-is (suc n) pdu h = refl
 
-  pub deliver-kept : (p.refusal ≡ 0 → ⊥) → Delivers p s o (Refused p.refusal) o
+  pub deliver-kept : (p.refusal ≡ 0 → ⊥) → Hands p s o (Refused p.refusal) o
   unfolding deliver
   deliver-kept h =
       let r : ℕ = unless (leb many (length s) && leb many (length o)) 6 in
@@ -176,18 +178,18 @@ module _ (p : Pen) (s o : List ℕ) where
       ap (λ (n : ℕ). delivered n (take many s) o) (first-not p.refusal r h) ∙ unsent-is p.refusal (take many s) h in
       record { answer_is = rw e; octets_is = rw e }
 
-  pub deliver-off : p.refusal ≡ 0 → length s < many → Delivers p s o (Refused 6) o
+  pub deliver-off : p.refusal ≡ 0 → length s < many → Hands p s o (Refused 6) o
   unfolding deliver
   deliver-off z h = let e = lt-leb many (length s) h in record { answer_is = rw (z, e); octets_is = rw (z, e) }
 
-  pub deliver-short : p.refusal ≡ 0 → many ≤ length s → length o < many → Delivers p s o (Refused 6) o
+  pub deliver-short : p.refusal ≡ 0 → many ≤ length s → length o < many → Hands p s o (Refused 6) o
   unfolding deliver
   deliver-short z l h =
       let e = le-leb many (length s) l in
       let f = lt-leb many (length o) h in
       record { answer_is = rw (z, e, f); octets_is = rw (z, e, f) }
 
-  pub deliver-good : {t : List ℕ} → p.refusal ≡ 0 → many ≤ length s → many ≤ length o → t ≡ take many s ++ drop many o → Delivers p s o (Octets many) t
+  pub deliver-good : {t : List ℕ} → p.refusal ≡ 0 → many ≤ length s → many ≤ length o → t ≡ take many s ++ drop many o → Hands p s o (Octets many) t
   unfolding deliver
   deliver-good z l h q =
       let e = le-leb many (length s) l in
@@ -226,7 +228,7 @@ module _ {A : Type 0} (c : Codec A) (a : A) (l : length (c.enc a) ≤ 1024) wher
       ∙ take-pack n 128 (filled e) (replicate (1024 - length (filled e)) false) (omega arith) (omega arith)
 
   -- what the code writes on a blank sheet and delivers is what the definition of a write says
-  pub delivers : (p : Pen) (s o : List ℕ) → Writes c blank (record { at = 0; refusal = 0 }) a p s → deliver p s o ≡ write_pdu c a o
+  pub delivers : (p : Pen) (s o : List ℕ) → Leaves c blank (record { at = 0; refusal = 0 }) a p s → deliver p s o ≡ write_pdu c a o
   unfolding ink deliver write_pdu
   delivers p s o w = rw (w.pen_is, w.octets_is) (go (c.chk a))
     where
@@ -247,7 +249,7 @@ module _ {A : Type 0} (c : Codec A) (a : A) (l : length (c.enc a) ≤ 1024) wher
       go (suc k) = refl
 
 -- a write changes octets and adds none
-pub sheet-long : {A : Type 0} (c : Codec A) {s t : List ℕ} {p q : Pen} {a : A} → Writes c s p a q t → length t ≡ length s
+pub sheet-long : {A : Type 0} (c : Codec A) {s t : List ℕ} {p q : Pen} {a : A} → Leaves c s p a q t → length t ≡ length s
 unfolding ink
 sheet-long c {s} {p = p} {a = a} w = ap length w.octets_is ∙ go (eqb p.refusal 0)
   where
@@ -256,5 +258,5 @@ sheet-long c {s} {p = p} {a = a} w = ap length w.octets_is ∙ go (eqb p.refusal
     go false = refl
 
 -- ---- how tight the statement of a delivery is: one answer and one content of the output
-pub delivers-one : {p : Pen} {s o t u : List ℕ} {x y : Written} → Delivers p s o x t → Delivers p s o y u → (x ≡ y) × (t ≡ u)
-delivers-one a b = (a.answer_is ∙ sym b.answer_is, a.octets_is ∙ sym b.octets_is)
+pub delivers-one : {s o t u : List ℕ} (p : pen.Pen) (x y : Result ℕ Refusal) → Delivers p s o x t → Delivers p s o y u → (x ≡ y) × (t ≡ u)
+delivers-one p x y a b = (told-alone x y (a.answer_is ∙ sym b.answer_is), a.octets_is ∙ sym b.octets_is)

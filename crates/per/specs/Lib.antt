@@ -1,4 +1,5 @@
 pub mod Bits
+pub mod Places
 pub mod Codec
 pub mod Field
 pub mod Shapes

@@ -1,21 +1,22 @@
 // Reading: a cursor by value that keeps its first refusal. A read on a cursor that holds one gives the empty value and the same cursor.
-ghost use Rattle.std.specs.Prelude.{◌≡◌, not, ◌+◌, ◌-◌, eqb, leb};
-ghost use Rattle.per.specs.Codec.{unless, refuse};
+ghost use Rattle.std.specs.Prelude.{◌≡◌, not, ◌+◌, ◌-◌, Some, eqb, leb};
+ghost use Rattle.per.specs.Places.{seen};
+ghost use Rattle.per.specs.Codec.{unless};
 ghost use Rattle.per.specs.Formats.{run, num, flag, extension, signed, mask, mask_bad, has, index, count, when};
 ghost use Rattle.per.specs.Pdu.{window, start, ending, finish};
 ghost use Rattle.per.specs.Reading.{Reads};
-ghost use Rattle.per.specs.ReadingInner.{settled};
-ghost use Rattle.refusals.specs.Refusals.{EXTENSION-SET, LIST-OVER};
+ghost use Rattle.per.specs.ReadingInner.{seen_read, settled};
+ghost use Rattle.refusals.specs.Refusals.{EXTENSION-SET, LIST-OVER, number_or_none};
 
 use crate::read_bits::{bits_at, left, octet_rest, room, width_of};
-use refusals::*;
+use refusals::Refusal;
 
-// Where reading stands, and the first refusal it met (0: none).
+// Where reading stands, and the first refusal it met.
 #[derive(Drop)]
 #[derive(Clone, Copy)]
 pub struct Cursor {
     pub at: usize,
-    pub refusal: u8,
+    pub refusal: Option<Refusal>,
 }
 
 // What was read at a place, and where reading goes on.
@@ -34,10 +35,13 @@ pub struct Signed {
 }
 
 // Nothing was read at a place, for the refusal's reason: `value` is the empty one.
-fn refused<T>(value: T, at: usize, refusal: u8) -> Read<T>
-    ensures { result ≡ record { value = value; next = refuse at refusal } }
+fn refused<T>(value: T, at: usize, refusal: Refusal) -> Read<T>
+    ensures { result ≡ record { value = value; next = record { at = at; refusal = Some refusal } } }
 {
-    let next = Cursor { at, refusal };
+    let next = Cursor {
+        at,
+        refusal: Some(refusal),
+    };
     Read { value, next }
 }
 
@@ -57,30 +61,38 @@ fn span(lo: u32, hi: u32) -> u32
     if lo < hi { hi - lo } else { 0 }
 }
 
-fn extension_bad(v: u32) -> u8
-    ensures { result ≡ unless (eqb v 0) EXTENSION-SET }
+fn extension_bad(v: u32) -> Option<Refusal>
+    ensures { number_or_none result ≡ unless (eqb v 0) EXTENSION-SET }
 {
-    if v == 0 { 0 } else { EXTENSION_SET }
+    if v == 0 {
+        None
+    } else {
+        Some(Refusal::ExtensionSet)
+    }
 }
 
-fn count_bad(v: u32) -> u8
-    ensures { result ≡ unless (leb v 16) LIST-OVER }
+fn count_bad(v: u32) -> Option<Refusal>
+    ensures { number_or_none result ≡ unless (leb v 16) LIST-OVER }
 {
-    if v <= 16 { 0 } else { LIST_OVER }
+    if v <= 16 {
+        None
+    } else {
+        Some(Refusal::ListOver)
+    }
 }
 
-pub fn mask_bad(v: u32, carried: u32, need: bool) -> u8
-    ensures { result ≡ mask_bad carried need v }
+pub fn mask_bad(v: u32, carried: u32, need: bool) -> Option<Refusal>
+    ensures { number_or_none result ≡ mask_bad carried need v }
 {
     if v & carried != v {
-        return NOT_CARRIED;
+        return Some(Refusal::NotCarried);
     }
     if need {
         if v == 0 {
-            return NO_ELEMENT;
+            return Some(Refusal::NoElement);
         }
     }
-    0
+    None
 }
 
 // A presence bit of weight w is set.
@@ -91,33 +103,36 @@ pub fn present(v: u32, w: u32) -> bool
 }
 
 // 13 where the filling is not zero, 14 where octets follow the PDU.
-fn ending_bad(s: &[u8], at: usize) -> u8
-    ensures { result ≡ ending (window s.now) at }
+fn ending_bad(s: &[u8], at: usize) -> Option<Refusal>
+    ensures { number_or_none result ≡ ending (window s.now) at }
 {
     let end = room(s);
     if end < at {
-        return OCTETS_AFTER;
+        return Some(Refusal::OctetsAfter);
     }
     if octet_rest(s, at) != 0 {
-        return FILLING;
+        return Some(Refusal::Filling);
     }
     if at + (8 - at % 8) % 8 != end {
-        return OCTETS_AFTER;
+        return Some(Refusal::OctetsAfter);
     }
-    0
+    None
 }
 
 impl Cursor {
     // The start of an input: one over 128 octets is refused with 16 before anything is read.
     pub fn start(s: &[u8]) -> Self
-        ensures { result ≡ start s.now }
+        ensures { seen result ≡ start s.now }
     {
         if s.len() <= 128 {
-            return Self { at: 0, refusal: 0 };
+            return Self {
+                at: 0,
+                refusal: None,
+            };
         }
         Self {
             at: 0,
-            refusal: INPUT_OVER,
+            refusal: Some(Refusal::InputOver),
         }
     }
 
@@ -126,18 +141,18 @@ impl Cursor {
         ensures { Reads (run w) s.now self result.value result.next }
     {
         let at = self.at;
-        if self.refusal != 0 {
+        if self.refusal.is_some() {
             return Read {
                 value: 0,
                 next: self,
             };
         }
         if left(s, at) < w {
-            return refused(0, at, CUT_SHORT);
+            return refused(0, at, Refusal::CutShort);
         }
         let next = Cursor {
             at: at + w,
-            refusal: 0,
+            refusal: None,
         };
         // Called from one place alone, the leaf would be compiled into `take`, which then is too long to be compiled into its callers, where w is known.
         if w <= 8 {
@@ -145,22 +160,22 @@ impl Cursor {
             return Read { value, next };
         }
         if 32 < w {
-            return refused(0, at, ABOVE_RANGE);
+            return refused(0, at, Refusal::AboveRange);
         }
         let value = bits_at(s, at, w) as u32;
         Read { value, next }
     }
 
     // The reading t from this place on, with the judgement `bad` on it.
-    fn settle(self, t: Read<u32>, bad: u8) -> Read<u32>
-        ensures { result ≡ settled self t bad }
+    fn settle(self, t: Read<u32>, bad: Option<Refusal>) -> Read<u32>
+        ensures { seen_read result ≡ settled (seen self) (seen_read t) (number_or_none bad) }
     {
         let n = t.next;
-        if n.refusal != 0 {
+        if n.refusal.is_some() {
             return t;
         }
-        if bad != 0 {
-            return refused(0, self.at, bad);
+        if let Some(refusal) = bad {
+            return refused(0, self.at, refusal);
         }
         t
     }
@@ -172,11 +187,11 @@ impl Cursor {
         let t = self.take(s, width_of(span(lo, hi)));
         let n = t.next;
         let v = t.value;
-        if n.refusal != 0 {
+        if n.refusal.is_some() {
             return t;
         }
         if above(lo, hi, v) {
-            return refused(0, self.at, ABOVE_RANGE);
+            return refused(0, self.at, Refusal::AboveRange);
         }
         Read {
             value: lo + v,
@@ -249,14 +264,14 @@ impl Cursor {
         let t = self.take(s, width_of(most));
         let n = t.next;
         let v = t.value;
-        if n.refusal != 0 {
+        if n.refusal.is_some() {
             return Read {
                 value: Signed { number: 0 },
                 next: n,
             };
         }
         if most < v {
-            return refused(Signed { number: 0 }, self.at, ABOVE_RANGE);
+            return refused(Signed { number: 0 }, self.at, Refusal::AboveRange);
         }
         let number = v as i32 - below as i32;
         Read {
@@ -267,9 +282,9 @@ impl Cursor {
 
     // The end of the PDU: the filling, and that no octet follows.
     pub fn finish(self, s: &[u8]) -> Cursor
-        ensures { result ≡ finish (window s.now) self }
+        ensures { seen result ≡ finish (window s.now) (seen self) }
     {
-        if self.refusal != 0 {
+        if self.refusal.is_some() {
             return self;
         }
         Cursor {

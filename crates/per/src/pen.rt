@@ -1,5 +1,7 @@
 // Writing: a pen by value over 128 lent octets that keeps its first refusal. From then on it writes nothing.
 ghost use Rattle.std.specs.Prelude.{◌≡◌, ◌≤◌, ◌++◌, length, take, drop};
+ghost use Rattle.refusals.specs.Refusals.{number};
+ghost use Rattle.per.specs.Places.{seen_pen};
 ghost use Rattle.per.specs.Bits.{of_bit};
 ghost use Rattle.per.specs.Formats.{run, num, flag, extension, signed, mask, index, count, when};
 ghost use Rattle.per.specs.Writing.{onward, barred, Writes, Delivers};
@@ -8,20 +10,13 @@ ghost use Rattle.per.specs.WritingInner.{Inked, Raised};
 use crate::cursor::{Signed, mask_bad};
 use crate::read_bits::width_of;
 use crate::write_bits::{pow2, put_bits};
-use refusals::*;
+use refusals::Refusal;
 
-// Where writing stands, and the first refusal it met (0: none).
+// Where writing stands, and the first refusal it met.
 #[derive(Drop)]
 pub struct Pen {
     pub at: usize,
-    pub refusal: u8,
-}
-
-// What writing a PDU gives: how many octets were written, or the number of a refusal.
-#[derive(Drop)]
-pub enum Written {
-    Octets(usize),
-    Refused(u8),
+    pub refusal: Option<Refusal>,
 }
 
 // The first n octets of a sheet, put into an output.
@@ -74,34 +69,37 @@ fn raise(z: Signed, below: u16, top: u16) -> u32
 impl Pen {
     // The start of a PDU.
     pub fn start() -> Self
-        ensures { result ≡ record { at = 0; refusal = 0 } }
+        ensures { seen_pen result ≡ record { at = 0; refusal = 0 } }
     {
-        Self { at: 0, refusal: 0 }
+        Self {
+            at: 0,
+            refusal: None,
+        }
     }
 
     // A refusal that is not a field's.
-    pub fn refuse(self, n: u8) -> Pen
-        ensures { result ≡ barred self n }
+    pub fn refuse(self, refusal: Refusal) -> Pen
+        ensures { seen_pen result ≡ barred (seen_pen self) (number refusal) }
     {
-        if self.refusal != 0 {
+        if self.refusal.is_some() {
             return self;
         }
         Pen {
             at: self.at,
-            refusal: n,
+            refusal: Some(refusal),
         }
     }
 
     // The w lowest bits of v, by a pen that holds no refusal.
     fn ink(self, out: &mut [u8; 128], w: usize, v: u32) -> Pen
         requires { w ≤ 32 }
-        ensures { Inked out.old self w v result out.new }
+        ensures { Inked out.old (seen_pen self) w v (seen_pen result) out.new }
     {
         let at = self.at;
         put_bits(out, at, w, v);
         Pen {
             at: onward_of(at, w),
-            refusal: 0,
+            refusal: None,
         }
     }
 
@@ -110,19 +108,19 @@ impl Pen {
         ensures { Writes (run w) out.old self v result out.new }
     {
         let at = self.at;
-        if self.refusal != 0 {
+        if self.refusal.is_some() {
             return self;
         }
         if 32 < w {
             return Pen {
                 at,
-                refusal: OUT_OF_RANGE,
+                refusal: Some(Refusal::OutOfRange),
             };
         }
         if pow2(w) <= v as u64 {
             return Pen {
                 at,
-                refusal: OUT_OF_RANGE,
+                refusal: Some(Refusal::OutOfRange),
             };
         }
         self.ink(out, w, v)
@@ -133,19 +131,19 @@ impl Pen {
         ensures { Writes (num lo hi) out.old self v result out.new }
     {
         let at = self.at;
-        if self.refusal != 0 {
+        if self.refusal.is_some() {
             return self;
         }
         if v < lo {
             return Pen {
                 at,
-                refusal: OUT_OF_RANGE,
+                refusal: Some(Refusal::OutOfRange),
             };
         }
         if hi < v {
             return Pen {
                 at,
-                refusal: OUT_OF_RANGE,
+                refusal: Some(Refusal::OutOfRange),
             };
         }
         self.ink(out, width_of(hi - lo), v - lo)
@@ -172,7 +170,7 @@ impl Pen {
     pub fn flag(self, out: &mut [u8; 128], b: bool) -> Pen
         ensures { Writes flag out.old self b result out.new }
     {
-        if self.refusal != 0 {
+        if self.refusal.is_some() {
             return self;
         }
         self.ink(out, 1, bit_of(b))
@@ -182,7 +180,7 @@ impl Pen {
     pub fn extension(self, out: &mut [u8; 128]) -> Pen
         ensures { Writes extension out.old self (record {}) result out.new }
     {
-        if self.refusal != 0 {
+        if self.refusal.is_some() {
             return self;
         }
         self.ink(out, 1, 0)
@@ -193,13 +191,13 @@ impl Pen {
         ensures { Writes count out.old self n result out.new }
     {
         let at = self.at;
-        if self.refusal != 0 {
+        if self.refusal.is_some() {
             return self;
         }
         if 16 < n {
             return Pen {
                 at,
-                refusal: LIST_OVER,
+                refusal: Some(Refusal::ListOver),
             };
         }
         self.ink(out, 8, n)
@@ -211,16 +209,16 @@ impl Pen {
     {
         let at = self.at;
         let bad = mask_bad(v, carried, need);
-        if self.refusal != 0 {
+        if self.refusal.is_some() {
             return self;
         }
         if all < v {
             return Pen {
                 at,
-                refusal: OUT_OF_RANGE,
+                refusal: Some(Refusal::OutOfRange),
             };
         }
-        if bad != 0 {
+        if bad.is_some() {
             return Pen { at, refusal: bad };
         }
         self.num(out, v, 0, all)
@@ -233,35 +231,34 @@ impl Pen {
         let at = self.at;
         let most = top as u32 + below as u32;
         let sent = raise(v, below, top);
-        if self.refusal != 0 {
+        if self.refusal.is_some() {
             return self;
         }
         if most < sent {
             return Pen {
                 at,
-                refusal: OUT_OF_RANGE,
+                refusal: Some(Refusal::OutOfRange),
             };
         }
         self.ink(out, width_of(most), sent)
     }
 
     // What stands on the sheet, put into an output: only where there is no refusal, and 6 where it is too short.
-    pub fn deliver(self, sheet: &[u8], out: &mut [u8]) -> Written
+    pub fn deliver(self, sheet: &[u8], out: &mut [u8]) -> Result<usize, Refusal>
         ensures { Delivers self sheet.now out.old result out.new }
     {
         let at = self.at;
-        let refusal = self.refusal;
         let n = at / 8 + (at % 8 + 7) / 8;
-        if refusal != 0 {
-            return Written::Refused(refusal);
+        if let Some(refusal) = self.refusal {
+            return Err(refusal);
         }
         if sheet.len() < n {
-            return Written::Refused(NO_ROOM);
+            return Err(Refusal::NoRoom);
         }
         if out.len() < n {
-            return Written::Refused(NO_ROOM);
+            return Err(Refusal::NoRoom);
         }
         copy(sheet, n, out);
-        Written::Octets(n)
+        Ok(n)
     }
 }

@@ -1,5 +1,7 @@
 -- The numbers by which calls refuse, each with the words of 01 ("Refusal numbers") or of the request that brought it. 0 is no refusal.
-use Rattle.std.specs.Prelude.{ℕ}
+use Rattle.std.specs.Prelude.{ℕ, Option, Some, None}
+use Rattle.refusals.specs.declared.Refusal.{Refusal}
+use Rattle.refusals.specs.declared.Refusal.TheVariants as why
 
 -- request not permitted
 abbrev pub NOT-PERMITTED : ℕ
@@ -82,3 +84,31 @@ NOT-READABLE = 20
 -- link record not good
 abbrev pub BAD-RECORD : ℕ
 BAD-RECORD = 29
+
+-- the number of each refusal
+abbrev pub number : Refusal → ℕ
+number why.NotPermitted = NOT-PERMITTED
+number why.CannotOccur = CANNOT-OCCUR
+number why.BadSetting = BAD-SETTING
+number why.ElapseOver = ELAPSE-OVER
+number why.OutOfRange = OUT-OF-RANGE
+number why.NoRoom = NO-ROOM
+number why.CutShort = CUT-SHORT
+number why.AboveRange = ABOVE-RANGE
+number why.ExtensionSet = EXTENSION-SET
+number why.NotCarried = NOT-CARRIED
+number why.ListOver = LIST-OVER
+number why.Filling = FILLING
+number why.OctetsAfter = OCTETS-AFTER
+number why.NoElement = NO-ELEMENT
+number why.InputOver = INPUT-OVER
+number why.ScriptLine = SCRIPT-LINE
+number why.CheckWrong = CHECK-WRONG
+number why.OutOfTurn = OUT-OF-TURN
+number why.NotReadable = NOT-READABLE
+number why.BadRecord = BAD-RECORD
+
+-- and 0 where there is none
+abbrev pub number_or_none : Option Refusal → ℕ
+number_or_none None = 0
+number_or_none (Some r) = number r

@@ -1,64 +1,101 @@
-// The numbers by which calls refuse, each with the words of 01 ("Refusal numbers") or of the request that brought it. 0 is no refusal.
-// request not permitted
+// Why a call refuses, each with the words of 01 ("Refusal numbers") or of the request that brought it, and its number. 0 is no refusal's.
 #![tactic(auto)]
 
+ghost use Rattle.std.specs.Prelude.{◌≡◌};
+ghost use Rattle.refusals.specs.Refusals.{number};
+
+#[derive(Clone, Copy, PartialEq, Eq, Debug)]
+pub enum Refusal {
+    // request not permitted
+    NotPermitted = 1,
+    // cannot occur
+    CannotOccur = 2,
+    // setting not 1..86,400
+    BadSetting = 3,
+    // elapse over 86,400
+    ElapseOver = 4,
+    // field to write out of range
+    OutOfRange = 5,
+    // output shorter than the PDU
+    NoRoom = 6,
+    // input ends inside a field
+    CutShort = 7,
+    // sent value above its range or index unused
+    AboveRange = 8,
+    // extension bit set
+    ExtensionSet = 9,
+    // presence bit of an element not carried
+    NotCarried = 10,
+    // 11, a default interval sent, is retired, and its number is not used again (L5)
+    // list over 16
+    ListOver = 12,
+    // filling not zero
+    Filling = 13,
+    // octets after the PDU
+    OctetsAfter = 14,
+    // event contract with no element
+    NoElement = 15,
+    // input over 128 octets
+    InputOver = 16,
+    // script line not readable
+    ScriptLine = 17,
+    // check wrong (L6)
+    CheckWrong = 18,
+    // block number out of turn (L6)
+    OutOfTurn = 19,
+    // record not readable (L6)
+    NotReadable = 20,
+    // link record not good
+    BadRecord = 29,
+}
+
+impl Refusal {
+    // The number that C and the logs show. No other refusal has it.
+    pub fn number(self) -> u8
+        ensures is { result ≡ number self }
+        ensures alone { (r : Refusal) → number r ≡ result → r ≡ self }
+    {
+        self as u8
+    }
+}
+
+// The numbers, for what keeps a number yet.
 pub const NOT_PERMITTED: u8 = 1;
 
-// cannot occur
 pub const CANNOT_OCCUR: u8 = 2;
 
-// setting not 1..86,400
 pub const BAD_SETTING: u8 = 3;
 
-// elapse over 86,400
 pub const ELAPSE_OVER: u8 = 4;
 
-// field to write out of range
 pub const OUT_OF_RANGE: u8 = 5;
 
-// output shorter than the PDU
 pub const NO_ROOM: u8 = 6;
 
-// input ends inside a field
 pub const CUT_SHORT: u8 = 7;
 
-// sent value above its range or index unused
 pub const ABOVE_RANGE: u8 = 8;
 
-// extension bit set
 pub const EXTENSION_SET: u8 = 9;
 
-// presence bit of an element not carried
 pub const NOT_CARRIED: u8 = 10;
 
-// 11, a default interval sent, is retired, and its number is not used again (L5)
-
-// list over 16
 pub const LIST_OVER: u8 = 12;
 
-// filling not zero
 pub const FILLING: u8 = 13;
 
-// octets after the PDU
 pub const OCTETS_AFTER: u8 = 14;
 
-// event contract with no element
 pub const NO_ELEMENT: u8 = 15;
 
-// input over 128 octets
 pub const INPUT_OVER: u8 = 16;
 
-// script line not readable
 pub const SCRIPT_LINE: u8 = 17;
 
-// check wrong (L6)
 pub const CHECK_WRONG: u8 = 18;
 
-// block number out of turn (L6)
 pub const OUT_OF_TURN: u8 = 19;
 
-// record not readable (L6)
 pub const NOT_READABLE: u8 = 20;
 
-// link record not good
 pub const BAD_RECORD: u8 = 29;

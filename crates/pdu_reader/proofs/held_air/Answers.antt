@@ -1,6 +1,7 @@
+use mathlib.Core.Path.{sym, ◌∙◌}
 use Rattle.per.proofs.Ends.{pdu-is}
 use Rattle.pdu.specs.DownlinkTable.{air_c}
 use Rattle.pdu_reader.proofs.held_air.Goals as goal
 
 pub returns : goal.returns
-returns c = rw (pdu-is air_c c.start.ensures c.air_from-a.ensures c.end_from-end.ensures, c.answer_air.ensures)
+returns c = c.answer.ensures ∙ sym (pdu-is air_c c.start.ensures c.air_from-a.ensures c.end_from-end.ensures)

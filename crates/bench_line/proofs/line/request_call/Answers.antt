@@ -1,10 +1,10 @@
 use Rattle.bench_line.specs.Lines.{request_call}
 use Rattle.bench_line.proofs.line.request_call.Goals as goal
 
-pub returns-in-Good : goal.returns-in-Good
+pub returns-in-Ok : goal.returns-in-Ok
 unfolding request_call
-returns-in-Good c = rw c.in-Good.is
+returns-in-Ok c = rw c.in-Ok.is
 
-pub returns-in-Refused : goal.returns-in-Refused
+pub returns-in-Err : goal.returns-in-Err
 unfolding request_call
-returns-in-Refused c = rw c.in-Refused.is
+returns-in-Err c = rw c.in-Err.is

@@ -1,6 +1,7 @@
 use mathlib.Core.Bool.{false}
 use native.Mathlib.Nat.{mul_assoc}
 use native.Mathlib.Omega.{arith}
+use Rattle.refusals.proofs.Numbers.{none-number}
 use Rattle.per.proofs.Compose.{count_most}
 use Rattle.pdu_parts.specs.Lists.{entry_c}
 use Rattle.pdu_parts.proofs.ListLaws.{listed-reads}
@@ -14,4 +15,4 @@ read_halves-r-requires c = omega (arith, count_most c.count-n.ensures)
 
 pub returns : goal.returns
 returns c = listed-reads 8 (entry_c false 127) c.count-n.ensures
-    (rw (mul_assoc c.count-n.result.value 2 4) at (c.read_halves-r.ensures c.if-next-ne0.false))
+    (rw (mul_assoc c.count-n.result.value 2 4) at (c.read_halves-r.ensures (none-number c.read_halves-r.result.next.refusal c.is_some.ensures c.if-is_some.false)))

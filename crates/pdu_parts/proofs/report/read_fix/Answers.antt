@@ -1,5 +1,6 @@
+use Rattle.refusals.proofs.Numbers.{none-number}
 use Rattle.pdu_parts.proofs.SpanLaws.{fix-read}
 use Rattle.pdu_parts.proofs.report.read_fix.Goals as goal
 
 pub returns : goal.returns
-returns c = rw c.with_seconds-time.ensures (fix-read c.take-lat.ensures c.take-lon.ensures c.signed-lev.ensures c.take-date.ensures c.num_if-sec.ensures c.take-mer.ensures c.if-next-ne0.false c.angle_in-latitude.ensures c.angle_in-longitude.ensures c.time_in-start.ensures c.merit_in-merit.ensures c.fix_fits.ensures c.if-not-fix_fits.false-raw)
+returns c = rw c.with_seconds-time.ensures (fix-read c.take-lat.ensures c.take-lon.ensures c.signed-lev.ensures c.take-date.ensures c.num_if-sec.ensures c.take-mer.ensures (none-number c.take-mer.result.next.refusal c.is_some.ensures c.if-is_some.false) c.angle_in-latitude.ensures c.angle_in-longitude.ensures c.time_in-start.ensures c.merit_in-merit.ensures c.fix_fits.ensures c.if-not-fix_fits.false-raw)

@@ -1,10 +1,10 @@
 use Rattle.pdu_words.specs.LineText.{ground_read}
 use Rattle.pdu_words.proofs.line.say_ground.Goals as goal
 
-pub returns-in-Good : goal.returns-in-Good
+pub returns-in-Ok : goal.returns-in-Ok
 unfolding ground_read
-returns-in-Good c = rw (← c.read_ground-answer.ensures, c.in-Good.is) c.put_ground.ensures
+returns-in-Ok c = rw (← c.in-Ok.ensures) c.put_ground.ensures
 
-pub returns-in-Refused : goal.returns-in-Refused
+pub returns-in-Err : goal.returns-in-Err
 unfolding ground_read
-returns-in-Refused c = rw (← c.read_ground-answer.ensures, c.in-Refused.is) c.say_refused.ensures
+returns-in-Err c = rw (← c.in-Err.ensures) (rw c.number.ensures.is at c.say_refused.ensures)
