@@ -1,6 +1,6 @@
 -- Laws of what is under way. Assumes nothing.
 use mathlib.Core.Path.{◌≡◌, refl, sym, ◌∙◌}
-use mathlib.Core.List.{List, [], ◌∷◌, ◌++◌, map, append-nil}
+use mathlib.Core.List.{List, [], ◌∷◌, ◌++◌, map}
 use Prim.Native.Nat.{ℕ, zero, suc, ◌+◌, ◌-◌, ◌≤◌, ◌<◌, min}
 use native.Mathlib.Nat.{min-eq_left, min-eq_right}
 use mathlib.Core.Logic.{⊎_elim}
@@ -8,14 +8,17 @@ use Rattle.text.proofs.Laws.{le-or-lt}
 use native.Mathlib.Omega.{arith}
 use native.Mathlib.Numerals.{add-one}
 use borrow.Author.Tests.{lt-ltb, le-ltb}
-use lib.ListN.{length, get_or, take, drop, set, length-take, length-map}
-use lib.Seq.{length-take-le, take-suc-set, drop-set-lt, drop-cons, take_all, append_snoc, take-nil, sets}
+use lib.ListN.{length, get_or, take, drop, set, length-take, length-drop, length-map}
+use Rattle.std.specs.List.{copy_within}
+use Rattle.std.proofs.lemmas.List.{take_at}
+use Rattle.std.proofs.lemmas.List.Edits.{sets, sets-eq}
+use lib.Seq.{length-take-le, take-suc-set, take_all, take-nil}
 use Rattle.channel.specs.declared.Letter.{Letter}
 use Rattle.channel.specs.Channel.{pushed}
 
--- one octet more of a PDU
-pub fill-next : (o s : List ℕ) (i : ℕ) → i < length s → sets (set o i (get_or s i 0)) (i + 1) (drop (i + 1) s) ≡ sets o i (drop i s)
-fill-next o s i h = rw (add-one, drop-cons s i 0 h)
+-- the octets of a PDU, and the zeros behind them
+pub octets-put : (o x y : List ℕ) (n : ℕ) → y ≡ x → n ≡ length x → n ≤ length o → y ++ drop n o ≡ sets o 0 x
+octets-put o x y n e w h = let z : 0 + length x ≡ length x = omega arith in rw (e, w) (rw z at (sym (sets-eq x o 0 (omega arith))))
 
 -- a letter behind those that are held, where there is room and where there is none
 module _ (ls : List Letter) (n : ℕ) (l : Letter) (whole : length ls ≡ 17) where
@@ -52,18 +55,6 @@ pass-begins l zero h = absurd (omega arith)
 pass-begins [] (suc n) h = take-nil (suc n - 1)
 pass-begins (x ∷ l) (suc n) h = let e : suc n - 1 ≡ n = omega arith in rw e
 
-pub pass-next : {A : Type 0} (d : A) (l : List A) (i n : ℕ) → 1 ≤ i → i < n → n ≤ length l
-    → take (i + 1 - 1) (set l (i - 1) (get_or l i d)) ++ take (n - (i + 1)) (drop (i + 1) (set l (i - 1) (get_or l i d))) ≡ take (i - 1) l ++ take (n - i) (drop i l)
-pass-next d l i n a b c =
-    let j = i - 1 in
-    let m = n - (i + 1) in
-    let x = get_or l i d in
-    let e : i + 1 - 1 ≡ suc j = omega arith in
-    let f : n - i ≡ suc m = omega arith in
-    let g : j < length l = omega arith in
-    let h : i < length l = omega arith in
-    let k : j < suc i = omega arith in
-    rw (e, f, add-one i, take-suc-set l j x g, drop-set-lt (suc i) l j x k, drop-cons l i d h) (append_snoc (take j l) x (take (n - suc i) (drop (suc i) l)))
-
-pub pass-ends : {A : Type 0} (l : List A) (i n : ℕ) → i ≡ n → take (i - 1) l ++ take (n - i) (drop i l) ≡ take (n - 1) l
-pass-ends l i n h = let e : n - i ≡ 0 = omega arith in rw (e, h) (append-nil (take (n - 1) l))
+pub pass-moves : {A : Type 0} (l m : List A) (n : ℕ) → 1 ≤ n → n ≤ length l → m ≡ copy_within l 1 n 0 → take (n - 1) m ≡ drop 1 (take n l)
+pass-moves l m n a b e =
+    rw e (take_at (take (n - 1) (drop 1 l)) _ (n - 1) (length-take-le (n - 1) (drop 1 l) (omega (arith, length-drop 1 l))) ∙ pass-begins l n a)

@@ -13,45 +13,40 @@ pub const ROOM: usize = 115;
 // One more than may be under way, so that it shows where there would be too many.
 pub const SLOTS: usize = 17;
 
+// What a letter is for its dialogue. The user's abort has no PDU.
+#[derive(Clone, Copy, Debug, PartialEq, Eq)]
+pub enum Kind {
+    Start,
+    Data,
+    End,
+    Abort,
+    UserAbort,
+}
+
 // A letter goes `up` to the aircraft, or down to the ground; it is of a dialogue by its number, and of a kind; its first n octets are a PDU, the others are 0.
-#[derive(Drop)]
-#[derive(Clone, Copy)]
+#[derive(Clone, Copy, Drop)]
 pub struct Letter {
     pub up: bool,
     pub number: u64,
-    pub kind: u8,
+    pub kind: Kind,
     pub n: usize,
     pub octets: [u8; ROOM],
 }
 
 // The first n letters are under way, the oldest first.
-#[derive(Drop)]
-#[derive(Clone, Copy)]
+#[derive(Clone, Copy, Drop)]
 pub struct Channel {
     pub n: usize,
     pub letters: [Letter; SLOTS],
 }
 
-// Octets that begin with those of a PDU.
-fn fill(s: &[u8]) -> [u8; ROOM]
-    requires { length s.now ≤ 115 }
-    ensures { result ≡ sets no_octets 0 s.now }
-{
-    let mut o = [0u8; ROOM];
-    let mut i = 0;
-    while i < s.len() {
-        o[i] = s[i];
-        i += 1;
-    }
-    o
-}
-
 // A letter; octets that have no room are left out.
-pub fn write_letter(up: bool, number: u64, kind: u8, s: &[u8]) -> Letter
+pub fn write_letter(up: bool, number: u64, kind: Kind, s: &[u8]) -> Letter
     ensures { result ≡ letter_of up number kind s.now }
 {
     let n = least(ROOM, s.len());
-    let octets = fill(&s[..n]);
+    let mut octets = [0u8; ROOM];
+    octets[..n].copy_from_slice(&s[..n]);
     Letter {
         up,
         number,
@@ -67,7 +62,7 @@ fn blank_letter() -> Letter
     Letter {
         up: false,
         number: 0,
-        kind: 0,
+        kind: Kind::Data,
         n: 0,
         octets: [0; ROOM],
     }
@@ -77,10 +72,9 @@ fn blank_letter() -> Letter
 pub fn empty() -> Channel
     ensures { held_in result ≡ [] }
 {
-    let l = blank_letter();
     Channel {
         n: 0,
-        letters: [l; SLOTS],
+        letters: [blank_letter(); SLOTS],
     }
 }
 
@@ -108,12 +102,11 @@ pub fn push(c: Channel, l: Letter) -> Channel
 pub fn oldest(c: Channel) -> Letter
     ensures { result ≡ oldest_of (held_in c) }
 {
-    let n = c.n;
-    if n == 0 {
-        return blank_letter();
+    if c.n == 0 {
+        blank_letter()
+    } else {
+        c.letters[0]
     }
-    let letters = c.letters;
-    letters[0]
 }
 
 // Without the oldest letter.
@@ -125,11 +118,6 @@ pub fn pass(c: Channel) -> Channel
         return c;
     }
     let mut letters = c.letters;
-    let mut i = 1;
-    while i < n {
-        let l = letters[i];
-        letters[i - 1] = l;
-        i += 1;
-    }
+    letters.copy_within(1..n, 0);
     Channel { n: n - 1, letters }
 }

@@ -4,65 +4,70 @@
 ghost use Rattle.std.specs.Prelude.{◌≡◌, length, take};
 ghost use Rattle.sending.specs.Ways.{way_of, kind_of, number_for, sent_as, sent_entry, sent_all};
 
-use channel::{Channel, push, write_letter};
+use channel::{Channel, Kind, push, write_letter};
 use link::actions::*;
 use link::acts::Acts;
 use script::answer::rest_of;
 use script::trace::bump;
 use text::least;
 
-// Kinds of letters are entries of an action list: 1, of which the ground's is a start request, to 4; and beside them an abort without a PDU, the user's.
-pub const START: u8 = 1;
+// Entries for the dialogue service that both sides name otherwise: a start, which is the ground's request and the aircraft's response, and an end.
+const START: u8 = 1;
 
-pub const END: u8 = 3;
-
-pub const USER_ABORT: u8 = 5;
+const END: u8 = 3;
 
 // What is under way, and the number of the dialogue of which more is sent.
-#[derive(Drop)]
-#[derive(Clone, Copy)]
+#[derive(Clone, Copy, Drop)]
 pub struct Way {
     pub held: Channel,
     pub number: u64,
 }
 
-fn kind_of(c: u8, octets: &[u8]) -> u8
+// An abort without a PDU is the user's.
+#[tactic(auto, unfolding(crate::specs::Ways::kind_of))]
+fn kind_of(c: u8, octets: &[u8]) -> Kind
     ensures { result ≡ kind_of c octets.now }
 {
-    if c != ABORT_REQUEST {
-        return c;
+    match c {
+        START => Kind::Start,
+        END => Kind::End,
+        ABORT_REQUEST => {
+            if octets.len() == 0 {
+                Kind::UserAbort
+            } else {
+                Kind::Abort
+            }
+        }
+        _ => Kind::Data,
     }
-    if octets.len() != 0 {
-        return c;
-    }
-    USER_ABORT
 }
 
 // Start requests are numbered as they are sent.
+#[tactic(auto, unfolding(crate::specs::Ways::number_for))]
 fn number_for(up: bool, c: u8, number: u64) -> u64
     ensures { result ≡ number_for up c number }
 {
-    if !up {
-        return number;
+    if up && c == START {
+        bump(number)
+    } else {
+        number
     }
-    if c != START {
-        return number;
-    }
-    bump(number)
 }
 
 // One entry for the dialogue service, with its octets.
+#[tactic(auto, unfolding(crate::specs::Ways::sent_as))]
 fn send(w: Way, up: bool, c: u8, octets: &[u8]) -> Way
     ensures { way_of result ≡ sent_as up (way_of w) c octets.now }
 {
     let number = number_for(up, c, w.number);
-    let kind = kind_of(c, octets);
-    let l = write_letter(up, number, kind, octets);
-    let before = w.held;
-    let held = push(before, l);
-    Way { held, number }
+    let l = write_letter(up, number, kind_of(c, octets), octets);
+    Way {
+        held: push(w.held, l),
+        number,
+    }
 }
 
+#[tactic(auto, unfolding(crate::specs::Ways::sent_entry))]
 fn send_entry(w: Way, up: bool, c: u8, octets: &[u8]) -> Way
     ensures { way_of result ≡ sent_entry up (way_of w) c octets.now }
 {
@@ -76,16 +81,13 @@ fn send_entry(w: Way, up: bool, c: u8, octets: &[u8]) -> Way
 pub fn send_all(w: Way, up: bool, acts: Acts, octets: &[u8]) -> Way
     ensures { way_of result ≡ sent_all up (way_of w) (take acts.n acts.list) octets.now (length octets.now) }
 {
-    let list = acts.list;
     let n = least(acts.n, 8);
     let mut left = octets.len();
     let mut way = w;
-    let mut i = 0;
-    while i < n {
+    for c in &acts.list[..n] {
         let m = least(left, octets.len());
-        way = send_entry(way, up, list[i], &octets[..m]);
-        left = rest_of(list[i], left);
-        i += 1;
+        way = send_entry(way, up, *c, &octets[..m]);
+        left = rest_of(*c, left);
     }
     way
 }

@@ -5,10 +5,10 @@ use Rattle.channel.specs.Channel.{held_in, oldest_of}
 use Rattle.std.proofs.Common.{rules}
 use Rattle.channel.proofs.oldest.Goals as goal
 
-pub returns-then-n-eq0 : goal.returns-then-n-eq0
+pub returns-then-c-eq0 : goal.returns-then-c-eq0
 unfolding held_in oldest_of
-returns-then-n-eq0 c = rw c.if-n-eq0.true c.blank_letter.ensures
+returns-then-c-eq0 c = rw c.if-c-eq0.true c.blank_letter.ensures
 
-pub returns : goal.returns
+pub returns-else-c-eq0 : goal.returns-else-c-eq0
 unfolding held_in oldest_of
-returns c = let whole : length c.args.c.letters ≡ 17 = search (rules, length-mapped) in first_any _ _ _ _ c.if-n-eq0.false whole
+returns-else-c-eq0 c = let whole : length c.args.c.letters ≡ 17 = search (rules, length-mapped) in first_any _ _ _ _ c.if-c-eq0.false whole
