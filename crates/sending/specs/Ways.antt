@@ -47,3 +47,7 @@ sent_entry up w c s = pick (goes c) (sent_as up w c s) w
 abbrev pub sent_all : Bool → Way → List ℕ → List ℕ → ℕ → Way
 sent_all up w [] s k = w
 sent_all up w (c ∷ cs) s k = sent_all up (sent_entry up w c (take k s)) cs s (rest_of c k)
+
+-- the same, from the first of the octets on
+abbrev pub sent_said : Bool → Way → List ℕ → List ℕ → Way
+sent_said up w cs s = sent_all up w cs s (length s)

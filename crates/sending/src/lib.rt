@@ -2,7 +2,7 @@
 #![tactic(auto)]
 
 ghost use Rattle.std.specs.Prelude.{◌≡◌, length, take};
-ghost use Rattle.sending.specs.Ways.{way_of, kind_of, number_for, sent_as, sent_entry, sent_all};
+ghost use Rattle.sending.specs.Ways.{way_of, kind_of, number_for, sent_as, sent_entry, sent_all, sent_said};
 
 use channel::{Channel, Kind, push, write_letter};
 use link::actions::*;
@@ -90,4 +90,12 @@ pub fn send_all(w: Way, up: bool, acts: Acts, octets: &[u8]) -> Way
         left = rest_of(*c, left);
     }
     way
+}
+
+// The same, of octets of which the first n go: those of an answer of either end, whatever room it has for them.
+pub fn send_said(w: Way, up: bool, acts: Acts, n: usize, octets: &[u8]) -> Way
+    ensures { way_of result ≡ sent_said up (way_of w) (take acts.n acts.list) (take n octets.now) }
+{
+    let m = least(n, octets.len());
+    send_all(w, up, acts, &octets[..m])
 }

@@ -3,6 +3,9 @@ use Rattle.std.specs.Prelude.{Bool, true, not, List, ℕ, eqb, ltb, length, take
 use Rattle.refusals.specs.Refusals.{SCRIPT-LINE}
 use Rattle.text.specs.Text.{pick, both}
 use Rattle.link.specs.Names.{LI, IDLE}
+use Rattle.channel.specs.declared.Kind.{Kind}
+use Rattle.channel.specs.declared.Kind.TheVariants.{Start, End, Abort, UserAbort}
+use Rattle.channel.specs.declared.Kind.TheVariants as kinds
 use Rattle.channel.specs.declared.Letter.{Letter}
 use Rattle.ground.specs.Runs.{answered}
 use Rattle.ground.specs.declared.call.Call.{Call}
@@ -11,7 +14,7 @@ use Rattle.ground_answer.specs.Answers.{refusal}
 use Rattle.ground_answer.specs.declared.answer.Answer.{Answer}
 use Rattle.ground_answer.specs.declared.answer.Said.{Said}
 use Rattle.bench.specs.Replies.{ready_setup}
-use Rattle.sending.specs.Ways.{Way, way, sent_all, START, END, USER-ABORT}
+use Rattle.sending.specs.Ways.{Way, way, sent_said}
 use Rattle.world.specs.World.{World, MOST, world_of}
 use Rattle.world.specs.declared.ground_turn.GroundTurn.{GroundTurn}
 
@@ -25,7 +28,7 @@ turn_of t = record { world = world_of t.world; said = t.said }
 
 -- what is under way after an answer, and the number of the dialogue
 unfoldable pub sent_by : Said → Way → Way
-sent_by said x = let s = take said.sent.n said.sent.octets in sent_all true x (take said.acts.n said.acts.list) s (length s)
+sent_by said x = sent_said true x (take said.acts.n said.acts.list) (take said.sent.n said.sent.octets)
 
 unfoldable pub goes_on : World → Answer → Way → Turn
 goes_on w a x = record { world = record { ground_end = ready_setup a.link; air = w.air; under = x.under; last = x.number; taken = w.taken }; said = a.said }
@@ -45,6 +48,9 @@ unfoldable pub hears : World → Letter → Bool
 hears w l = both (not (eqb (get_or w.ground_end.link.at LI 0) IDLE)) (eqb l.number w.last)
 
 -- "each to the other end as the primitive it is"
-unfoldable pub call_for : ℕ → Call
-call_for k =
-    pick (eqb k START) StartConfirm (pick (eqb k END) EndConfirm (pick (eqb k 4) AirAbort (pick (eqb k USER-ABORT) PeerAbort Data)))
+unfoldable pub call_for : Kind → Call
+call_for Start = StartConfirm
+call_for kinds.Data = Data
+call_for End = EndConfirm
+call_for Abort = AirAbort
+call_for UserAbort = PeerAbort
