@@ -1,5 +1,5 @@
 -- What comes of a letter at the end that it is for (docs/FLIGHT.md): "its answer; `over`, where its dialogue is; `lost`, by `lose` and `cut`".
-use Rattle.std.specs.Prelude.{◌≡◌, Bool, false, List, [], ℕ, ◌≤◌, eqb, length, take}
+use Rattle.std.specs.Prelude.{◌≡◌, Bool, false, List, [], ℕ, ◌≤◌, eqb, length}
 use Rattle.refusals.specs.Refusals.{SCRIPT-LINE}
 use Rattle.text.specs.Letters.{ascii}
 use Rattle.text.specs.Text.{pick}
@@ -8,8 +8,7 @@ use Rattle.pdu_parts.specs.Lists.{no_list}
 use Rattle.bench_line.specs.AnswerText as ground
 use Rattle.air_line.specs.AnswerText as air
 use Rattle.channel.specs.declared.Letter.{Letter}
-use Rattle.channel.specs.Channel.{octets_in}
-use Rattle.sending.specs.Ways.{END}
+use Rattle.channel.specs.Channel.{octets_in, ends}
 use Rattle.world.specs.World.{World, world_of}
 use Rattle.world.specs.GroundTurns as to_ground
 use Rattle.world.specs.AirTurns as to_air
@@ -17,12 +16,7 @@ use Rattle.delivery.specs.declared.hear.Carried as code
 
 -- the octets that the end hears: "`end-cnf`, which has no octets (B27)"
 unfoldable pub came : Letter → List ℕ
-came l = pick l.up (octets_in l) (pick (eqb l.kind END) [] (octets_in l))
-
--- what `came_count` gives: how many they are, and that they are there
-pub record Comes (l : Letter) (r : ℕ) : Type 0 where
-  pub is : take r l.octets ≡ came l
-  pub within : r ≤ length l.octets
+came l = pick l.up (octets_in l) (pick (ends l.kind) [] (octets_in l))
 
 -- the world after it, what the line says of it, and whether it stays under way
 pub record Carried : Type 0 where

@@ -5,8 +5,8 @@ ghost use Rattle.world.specs.World.{world_of};
 ghost use Rattle.delivery.specs.Hearing.{Carries};
 ghost use Rattle.delivery.specs.Deliveries.{word_for, head_text, carried_one, carried, LETTER-MOST, Flies};
 
-use crate::hear::{Carried, came_count, come};
-use channel::{Letter, oldest, pass};
+use crate::hear::{Carried, came, come};
+use channel::{Kind, Letter, oldest, pass};
 use script::answer::put_spaced;
 use text::words::put_word;
 use text::{put_byte, put_decimal};
@@ -20,14 +20,18 @@ pub struct Flown {
 }
 
 // The word for a letter among those of both ends.
+#[tactic(auto, unfolding(crate::specs::Deliveries::word_for))]
 fn word_for(l: Letter) -> usize
     ensures { result ≡ word_for l }
 {
-    let k = l.kind as usize;
-    if l.up {
-        return k;
-    }
-    k + 5
+    let k = match l.kind {
+        Kind::Start => 1,
+        Kind::Data => 2,
+        Kind::End => 3,
+        Kind::Abort => 4,
+        Kind::UserAbort => 5,
+    };
+    if l.up { k } else { k + 5 }
 }
 
 // The number of the line and of the letter, the end that it is for, and what that end hears.
@@ -37,17 +41,14 @@ fn put_head(out: &mut [u8], at: usize, number: u64, i: u64, l: Letter) -> usize
     let a = put_decimal(out, at, number);
     let b = put_byte(out, a, 46);
     let c = put_decimal(out, b, i);
-    let w = word_for(l);
     let d = put_word(
         out,
         c,
         b" air start-ind air data air end-ind air ground-abort air peer-abort ground start-cnf ground data ground end-cnf ground air-abort ground peer-abort",
         &[0, 0, 14, 23, 35, 52, 67, 84, 96, 111, 128, 146],
-        w,
+        word_for(l),
     );
-    let m = came_count(l);
-    let o = l.octets;
-    let e = put_spaced(out, d, &o[..m]);
+    let e = put_spaced(out, d, came(&l));
     put_byte(out, e, 32)
 }
 
@@ -55,38 +56,18 @@ fn put_head(out: &mut [u8], at: usize, number: u64, i: u64, l: Letter) -> usize
 fn carry_one(w: World, number: u64, i: u64, hear: bool, out: &mut [u8], at: usize) -> Carried
     ensures { Carries LETTER-MOST (carried_one hear number i (world_of w)) (page out.old at) result (page out.new result.at) }
 {
-    let ground = w.ground_end;
-    let air = w.air;
-    let before = w.held;
-    let l = oldest(before);
-    let held = pass(before);
+    let l = oldest(w.held);
     let a = put_head(out, at, number, i, l);
-    let c = come(
-        World {
-            ground_end: ground,
-            air,
-            held,
-            last: w.last,
-            taken: w.taken,
-        },
-        l,
-        hear,
-        out,
-        a,
-    );
+    let next = World {
+        held: pass(w.held),
+        ..w
+    };
+    let c = come(next, l, hear, out, a);
     let e = put_byte(out, c.at, 10);
-    if c.stays {
-        return Carried {
-            world: w,
-            at: e,
-            stays: true,
-        };
-    }
-    let next = c.world;
     Carried {
-        world: next,
+        world: if c.stays { w } else { c.world },
         at: e,
-        stays: false,
+        stays: c.stays,
     }
 }
 
@@ -96,16 +77,13 @@ pub fn carry(w: World, number: u64, k: u64, hear: bool, out: &mut [u8], at: usiz
 {
     let mut world = w;
     let mut a = at;
-    let mut i: u64 = 0;
-    while i < k {
+    for i in 0..k {
         let c = carry_one(world, number, i + 1, hear, out, a);
-        let next = c.world;
+        world = c.world;
         a = c.at;
         if c.stays {
-            return Flown { world: next, at: a };
+            return Flown { world, at: a };
         }
-        world = next;
-        i += 1;
     }
     Flown { world, at: a }
 }

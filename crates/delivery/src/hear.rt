@@ -1,14 +1,13 @@
 // What comes of a letter at the end that it is for.
-ghost use Rattle.std.specs.Prelude.{◌≤◌, length};
+ghost use Rattle.std.specs.Prelude.{◌≡◌, ◌≤◌, length};
 ghost use Rattle.text.specs.Page.{page};
 ghost use Rattle.world.specs.World.{world_of};
-ghost use Rattle.delivery.specs.Hearing.{Comes, HEARD-MOST, Carries, ground_carried, air_carried, came_to, comes};
+ghost use Rattle.delivery.specs.Hearing.{HEARD-MOST, Carries, came, ground_carried, air_carried, came_to, comes};
 
 use crate::answers::{put_air, put_ground};
-use channel::{Letter, ROOM};
+use channel::{Kind, Letter, ROOM};
 use pdu_parts::lists::no_list;
 use refusals::SCRIPT_LINE;
-use sending::END;
 use text::{least, put_text};
 use world::air_turn::turn_air;
 use world::ground_turn::turn_ground;
@@ -22,17 +21,16 @@ pub struct Carried {
     pub stays: bool,
 }
 
-// How many octets the end hears: an end confirm has none.
-pub fn came_count(l: Letter) -> usize
-    ensures { Comes l result }
+// The octets that the end hears: an end confirm has none.
+#[tactic(auto, unfolding(crate::specs::Hearing::came))]
+pub fn came(l: &Letter) -> &[u8]
+    ensures { result.now ≡ came l.now }
 {
-    if l.up {
-        return least(l.n, ROOM);
+    if !l.up && l.kind == Kind::End {
+        return &l.octets[..0];
     }
-    if l.kind == END {
-        return 0;
-    }
-    least(l.n, ROOM)
+    let n = least(l.n, ROOM);
+    &l.octets[..n]
 }
 
 // A letter that no end is told of.
@@ -54,14 +52,12 @@ fn hear_ground(w: World, l: Letter, out: &mut [u8], at: usize) -> Carried
     if !world::ground_turn::is_heard(w, l) {
         return say(w, b"over", out, at);
     }
-    let m = came_count(l);
-    let o = l.octets;
-    let t = turn_ground(w, world::ground_turn::call_for(l.kind), &o[..m]);
+    let octets = came(&l);
+    let t = turn_ground(w, world::ground_turn::call_for(l.kind), octets);
     let said = t.said;
-    let next = t.world;
-    let a = put_ground(out, at, said, &o[..m]);
+    let a = put_ground(out, at, said, octets);
     Carried {
-        world: next,
+        world: t.world,
         at: a,
         stays: said.refusal == SCRIPT_LINE,
     }
@@ -73,20 +69,18 @@ fn hear_air(w: World, l: Letter, out: &mut [u8], at: usize) -> Carried
     if !world::air_turn::is_heard(w, l) {
         return say(w, b"over", out, at);
     }
-    let m = came_count(l);
-    let o = l.octets;
+    let octets = came(&l);
     let t = turn_air(
         w,
         l.number,
         world::air_turn::call_for(l.kind),
         no_list(),
-        &o[..m],
+        octets,
     );
     let said = t.said;
-    let next = t.world;
-    let a = put_air(out, at, said, &o[..m]);
+    let a = put_air(out, at, said, octets);
     Carried {
-        world: next,
+        world: t.world,
         at: a,
         stays: said.refusal == SCRIPT_LINE,
     }

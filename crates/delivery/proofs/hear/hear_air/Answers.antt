@@ -1,10 +1,8 @@
 use Rattle.delivery.proofs.Laws.{air-over, air-told}
-use Rattle.delivery.proofs.Short.{taken}
+use Rattle.delivery.proofs.Short.{came-short}
 use Rattle.delivery.specs.Hearing.{air_said}
 use Rattle.world.specs.World.{world_of}
-use lib.Seq.{length-take-le}
 use borrow.Author.Tests.{not-true, not-false}
-use native.Mathlib.Omega.{arith}
 use lib.ListN.{length}
 use mathlib.Core.Path.{◌≡◌, refl, sym, ◌∙◌}
 use Rattle.std.proofs.Common.{rules}
@@ -13,22 +11,10 @@ use Rattle.delivery.proofs.hear.hear_air.Goals as goal
 pub returns-then-not-is_heard : goal.returns-then-not-is_heard
 returns-then-not-is_heard c = rw (air-over (world_of c.args.w) c.args.l (sym c.is_heard.ensures ∙ not-true c.is_heard.result c.if-not-is_heard.true-raw)) c.say.ensures
 
-pub slice_bounds-o-end : goal.slice_bounds-o-end
-slice_bounds-o-end c = c.came_count-m.ensures.within
-
-pub slice_bounds-turn_air-end : goal.slice_bounds-turn_air-end
-slice_bounds-turn_air-end c = sym (length-take-le _ _ c.came_count-m.ensures.within)
-
-pub slice_bounds-o-end-2 : goal.slice_bounds-o-end-2
-slice_bounds-o-end-2 c = c.came_count-m.ensures.within
-
-pub slice_bounds-put_air-end : goal.slice_bounds-put_air-end
-slice_bounds-put_air-end c = sym (length-take-le _ _ c.came_count-m.ensures.within)
-
 pub returns : goal.returns
 unfolding air_said
 returns c = let whole : length c.args.l.octets ≡ 115 = search rules in
     let t = c.turn_air-t in
     let h = c.is_heard in
-    rw (air-told (world_of c.args.w) c.args.l (sym h.ensures ∙ not-false h.result c.if-not-is_heard.false-raw), ← c.came_count-m.ensures.is, ← c.call_for.ensures, ← c.no_list.ensures, ← t.ensures)
-    (record { world_is = refl; stays_is = refl; text_is = c.put_air-a.ensures.text_is; short = c.put_air-a.ensures.short (taken c.came_count-m.result c.args.l.octets (omega (arith, whole))) })
+    rw (air-told (world_of c.args.w) c.args.l (sym h.ensures ∙ not-false h.result c.if-not-is_heard.false-raw), ← c.came-octets.ensures, ← c.call_for.ensures, ← c.no_list.ensures, ← t.ensures)
+    (record { world_is = refl; stays_is = refl; text_is = c.put_air-a.ensures.text_is; short = c.put_air-a.ensures.short (rw c.came-octets.ensures (came-short c.args.l whole)) })
