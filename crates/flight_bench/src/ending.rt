@@ -1,5 +1,7 @@
 // The end of a flight: the states of both ends, and how much is under way.
-ghost use Rattle.std.specs.Prelude.{◌≡◌, ◌+◌, ◌≤◌};
+ghost use Rattle.std.specs.Prelude.{◌≡◌, ◌++◌, ◌+◌, ◌≤◌};
+ghost use Rattle.text.specs.Letters.{ascii};
+ghost use Rattle.text.specs.Text.{pick};
 ghost use Rattle.text.specs.Page.{page, Writes};
 ghost use Rattle.text.specs.Words.{words_of};
 ghost use Rattle.world.specs.World.{world_of};
@@ -46,39 +48,49 @@ fn put_modules(out: &mut [u8], at: usize, states: [u8; 5], words: &[u8], begins:
     put_byte(out, e, 10)
 }
 
-// The states of a ground that has its settings, under the names of its tables.
+// The states of an end that has its settings, under the names of its tables.
+fn put_end(
+    out: &mut [u8],
+    at: usize,
+    name: &[u8],
+    ready: bool,
+    states: [u8; 5],
+    words: &[u8],
+    begins: &[usize],
+) -> usize
+    ensures { Writes (page out.old at) (name.now ++ pick ready (states_of (words_of words.now begins.now) states) (ascii " not set\n")) (page out.new result) }
+{
+    let a = put_text(out, at, name);
+    if ready {
+        put_modules(out, a, states, words, begins)
+    } else {
+        put_text(out, a, b" not set\n")
+    }
+}
+
 fn put_ground(out: &mut [u8], at: usize, s: bench::reply::Setup) -> usize
     ensures { Writes (page out.old at) (ground_states s) (page out.new result) }
 {
-    if !s.ready {
-        return put_text(out, at, b"ground not set\n");
-    }
-    let link = s.link;
-    let states = link.at;
-    let a = put_text(out, at, b"ground");
-    put_modules(
+    put_end(
         out,
-        a,
-        states,
+        at,
+        b"ground",
+        s.ready,
+        s.link.at,
         b" LI-IDLE LI-START LI-ACTIVE LI-END DC-IDLE DC-PENDING DC-ACTIVE EC-IDLE EC-START-PENDING EC-PENDING EC-ACTIVE EC-CANCEL PC-IDLE PC-START-PENDING PC-PENDING PC-ACTIVE PC-CANCEL EM-IDLE EM-ACTIVE EM-MODIFY",
         &GROUND_BEGINS,
     )
 }
 
-// And of an aircraft.
 fn put_air(out: &mut [u8], at: usize, s: air_bench::reply::Setup) -> usize
     ensures { Writes (page out.old at) (air_states s) (page out.new result) }
 {
-    if !s.ready {
-        return put_text(out, at, b"air not set\n");
-    }
-    let link = s.link;
-    let states = link.at;
-    let a = put_text(out, at, b"air");
-    put_modules(
+    put_end(
         out,
-        a,
-        states,
+        at,
+        b"air",
+        s.ready,
+        s.link.at,
         b" LI-IDLE LI-START LI-ACTIVE DC-IDLE DC-PENDING DC-ACTIVE EC-IDLE EC-PENDING EC-ACTIVE EC-ACTIVE-PENDING PC-IDLE PC-PENDING PC-ACTIVE PC-ACTIVE-PENDING EM-IDLE EM-ACTIVE EM-MODIFY EM-CANCEL",
         &AIR_BEGINS,
     )
@@ -87,12 +99,9 @@ fn put_air(out: &mut [u8], at: usize, s: air_bench::reply::Setup) -> usize
 pub fn put_states(out: &mut [u8], at: usize, w: World) -> usize
     ensures { Writes (page out.old at) (states_text (world_of w)) (page out.new result) }
 {
-    let ground = w.ground_end;
-    let air = w.air;
-    let held = w.held;
-    let a = put_ground(out, at, ground);
-    let b = put_air(out, a, air);
+    let a = put_ground(out, at, w.ground_end);
+    let b = put_air(out, a, w.air);
     let c = put_text(out, b, b"under way ");
-    let d = put_decimal(out, c, count(held) as u64);
+    let d = put_decimal(out, c, count(w.held) as u64);
     put_byte(out, d, 10)
 }

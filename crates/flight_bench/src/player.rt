@@ -29,15 +29,14 @@ pub struct Played {
     pub failed: bool,
 }
 
-// Answers every line of the input. A proved loop has to end, so it counts down from a number that no run uses up.
+// Answers every line of the input. A proved loop has to end, so it counts to a number that no run comes to.
 fn run(stdin: Stdin, t: Trace, chunk: &mut [u8], line: &mut [u8], out: &mut [u8]) -> Played
     requires { 131072 ≤ length out.old }
     ensures { Plays (length line.old) (left true []) t.number (world_of t.world) result.trace.number (world_of result.trace.world) result.trace.at result.failed }
 {
     let mut e = t;
     let mut input = start();
-    let mut turns: u64 = 18446744073709551615;
-    while turns > 0 {
+    for _turn in 0..u64::MAX {
         let l = pull_line(stdin, input, e.at, chunk, line, out);
         input = l.input;
         e.at = l.at;
@@ -49,7 +48,6 @@ fn run(stdin: Stdin, t: Trace, chunk: &mut [u8], line: &mut [u8], out: &mut [u8]
         }
         let n = shown(l.len, line);
         e = add_line(e, &line[..n], out);
-        turns -= 1;
     }
     Played {
         trace: e,
@@ -69,8 +67,7 @@ fn end_flight(p: Played, out: &mut [u8]) -> Ended
             failed: true,
         };
     }
-    let world = t.world;
-    let a = put_states(out, t.at, world);
+    let a = put_states(out, t.at, t.world);
     close(out, a, t.number, false)
 }
 

@@ -25,22 +25,19 @@ pub fn begin(out: &mut [u8]) -> Trace
     ensures { Adds (page out.old 0) 0 begun result.number (world_of result.world) (page out.new result.at) }
 {
     let at = put_text(out, 0, b"adsc flight 1\n");
-    let below = idle_link([0; TIMERS]);
-    let above = air_answer::fresh::idle_link(0);
-    let held = empty();
     Trace {
         number: 0,
         at,
         world: World {
             ground_end: bench::reply::Setup {
                 ready: false,
-                link: below,
+                link: idle_link([0; TIMERS]),
             },
             air: air_bench::reply::Setup {
                 ready: false,
-                link: above,
+                link: air_answer::fresh::idle_link(0),
             },
-            held,
+            held: empty(),
             last: 0,
             taken: 0,
         },
@@ -52,14 +49,12 @@ pub fn number_line(t: Trace, line: &[u8], out: &mut [u8]) -> Trace
     ensures { Adds (page out.old t.at) (bumped t.number) (numbered (bumped t.number) (world_of t.world) line.now) result.number (world_of result.world) (page out.new result.at) }
 {
     let number = bump(t.number);
-    let before = t.world;
     let a = put_decimal(out, t.at, number);
     let b = put_byte(out, a, 32);
-    let f = fly_line(before, number, line, out, b);
-    let world = f.world;
+    let f = fly_line(t.world, number, line, out, b);
     Trace {
         number,
         at: f.at,
-        world,
+        world: f.world,
     }
 }

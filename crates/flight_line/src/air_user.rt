@@ -23,36 +23,24 @@ fn ask_air(w: World, line: &[u8], out: &mut [u8], at: usize) -> Flown
 {
     let mut octets = line_room();
     let told = parse_line(line, &mut octets);
-    let asked = told.call;
-    let LineCall::Makes(call, n) = asked else {
+    let LineCall::Makes(call, n) = told.call else {
         return refuse(w, SCRIPT_LINE, out, at);
     };
-    let list = told.list;
-    let m = least(n, 2048);
-    let t = turn_air(w, w.taken, call, list, &octets[..m]);
-    let said = t.said;
-    let next = t.world;
-    let a = put_answer(out, at, said, &octets[..m]);
-    Flown { world: next, at: a }
+    let came = &octets[..least(n, 2048)];
+    let t = turn_air(w, w.taken, call, told.list, came);
+    Flown {
+        at: put_answer(out, at, t.said, came),
+        world: t.world,
+    }
 }
 
 // A line of an aircraft that has none.
 fn set_air(w: World, line: &[u8], out: &mut [u8], at: usize) -> Flown
     ensures { Flies ANSWER-MOST (air_set (world_of w) line.now) (page out.old at) (world_of result.world) (page out.new result.at) }
 {
-    let ground = w.ground_end;
-    let setup = w.air;
-    let held = w.held;
-    let r = answer_line(setup, line, out, at);
-    let air = r.setup;
+    let r = answer_line(w.air, line, out, at);
     Flown {
-        world: World {
-            ground_end: ground,
-            air,
-            held,
-            last: w.last,
-            taken: w.taken,
-        },
+        world: World { air: r.setup, ..w },
         at: r.at,
     }
 }
@@ -63,8 +51,7 @@ pub fn use_air(w: World, line: &[u8], out: &mut [u8], at: usize) -> Flown
     if !is_user(line) {
         return refuse(w, SCRIPT_LINE, out, at);
     }
-    let setup = w.air;
-    if setup.ready {
+    if w.air.ready {
         return ask_air(w, line, out, at);
     }
     set_air(w, line, out, at)

@@ -27,29 +27,24 @@ fn hear_both(w: World, g: ground::call::Call, a: air::call::Call) -> Both
     ensures { both_of result ≡ both_hear (world_of w) g a }
 {
     let t = turn_ground(w, g, b"");
-    let middle = t.world;
-    let u = turn_air(middle, middle.taken, a, no_list(), b"");
-    let world = u.world;
-    let ground = t.said;
-    let air = u.said;
+    let u = turn_air(t.world, t.world.taken, a, no_list(), b"");
     Both {
-        world,
-        ground_end: ground,
-        air,
+        world: u.world,
+        ground_end: t.said,
+        air: u.said,
     }
 }
 
 fn tell_both(b: Both, out: &mut [u8], at: usize) -> Flown
     ensures { Flies BOTH-MOST (both_reply (both_of b)) (page out.old at) (world_of result.world) (page out.new result.at) }
 {
-    let ground = b.ground_end;
-    let air = b.air;
     let a = put_text(out, at, b"ground ");
-    let e = put_ground(out, a, ground, b"");
+    let e = put_ground(out, a, b.ground_end, b"");
     let c = put_text(out, e, b" air ");
-    let d = put_air(out, c, air, b"");
-    let world = b.world;
-    Flown { world, at: d }
+    Flown {
+        at: put_air(out, c, b.air, b""),
+        world: b.world,
+    }
 }
 
 // Seconds pass at both ends, unless one refuses.
@@ -57,13 +52,11 @@ pub fn elapse_both(w: World, n: u32, out: &mut [u8], at: usize) -> Flown
     ensures { Flies ANSWER-MOST (elapse_reply (world_of w) n) (page out.old at) (world_of result.world) (page out.new result.at) }
 {
     let b = hear_both(w, ground::call::Call::Elapse(n), air::call::Call::Elapse(n));
-    let ground = b.ground_end;
-    let first = ground.refusal;
+    let first = b.ground_end.refusal;
     if first != 0 {
         return refuse(w, first, out, at);
     }
-    let air = b.air;
-    let second = air.refusal;
+    let second = b.air.refusal;
     if second != 0 {
         return refuse(w, second, out, at);
     }

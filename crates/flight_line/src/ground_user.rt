@@ -26,30 +26,23 @@ fn ask_ground(w: World, line: &[u8], out: &mut [u8], at: usize) -> Flown
     let LineCall::Makes(call, n) = told else {
         return refuse(w, SCRIPT_LINE, out, at);
     };
-    let m = least(n, 2048);
-    let t = turn_ground(w, call, &octets[..m]);
-    let said = t.said;
-    let next = t.world;
-    let a = put_answer(out, at, said, &octets[..m]);
-    Flown { world: next, at: a }
+    let came = &octets[..least(n, 2048)];
+    let t = turn_ground(w, call, came);
+    Flown {
+        at: put_answer(out, at, t.said, came),
+        world: t.world,
+    }
 }
 
 // A line of a ground that has none.
 fn set_ground(w: World, line: &[u8], out: &mut [u8], at: usize) -> Flown
     ensures { Flies ANSWER-MOST (ground_set (world_of w) line.now) (page out.old at) (world_of result.world) (page out.new result.at) }
 {
-    let setup = w.ground_end;
-    let air = w.air;
-    let held = w.held;
-    let r = answer_line(setup, line, out, at);
-    let ground = r.setup;
+    let r = answer_line(w.ground_end, line, out, at);
     Flown {
         world: World {
-            ground_end: ground,
-            air,
-            held,
-            last: w.last,
-            taken: w.taken,
+            ground_end: r.setup,
+            ..w
         },
         at: r.at,
     }
@@ -61,8 +54,7 @@ pub fn use_ground(w: World, line: &[u8], out: &mut [u8], at: usize) -> Flown
     if !is_user(line) {
         return refuse(w, SCRIPT_LINE, out, at);
     }
-    let setup = w.ground_end;
-    if setup.ready {
+    if w.ground_end.ready {
         return ask_ground(w, line, out, at);
     }
     set_ground(w, line, out, at)

@@ -27,17 +27,17 @@ fn refuse_line(w: World, out: &mut [u8], at: usize) -> Flown
     ensures { Flies LINE-MOST (refused_line (world_of w)) (page out.old at) (world_of result.world) (page out.new result.at) }
 {
     let f = refuse(w, SCRIPT_LINE, out, at);
-    let world = f.world;
-    let a = put_byte(out, f.at, 10);
-    Flown { world, at: a }
+    Flown {
+        at: put_byte(out, f.at, 10),
+        world: f.world,
+    }
 }
 
+#[tactic(auto, unfolding(crate::specs::Lines::both_ready))]
 fn both_ready(w: World) -> bool
     ensures { result ≡ both_ready (world_of w) }
 {
-    let ground = w.ground_end;
-    let air = w.air;
-    if ground.ready { air.ready } else { false }
+    w.ground_end.ready && w.air.ready
 }
 
 // The line for an end, behind the first word.
@@ -48,8 +48,7 @@ fn rest_of(line: &[u8]) -> &[u8]
     if line.len() <= e {
         return &line[..0];
     }
-    let from = e + 1;
-    &line[from..]
+    &line[e + 1..]
 }
 
 fn ground_line(w: World, line: &[u8], out: &mut [u8], at: usize) -> Flown
@@ -57,9 +56,10 @@ fn ground_line(w: World, line: &[u8], out: &mut [u8], at: usize) -> Flown
 {
     let a = put_text(out, at, b"ground ");
     let f = use_ground(w, rest_of(line), out, a);
-    let world = f.world;
-    let e = put_byte(out, f.at, 10);
-    Flown { world, at: e }
+    Flown {
+        at: put_byte(out, f.at, 10),
+        world: f.world,
+    }
 }
 
 fn air_line(w: World, line: &[u8], out: &mut [u8], at: usize) -> Flown
@@ -67,43 +67,40 @@ fn air_line(w: World, line: &[u8], out: &mut [u8], at: usize) -> Flown
 {
     let a = put_text(out, at, b"air ");
     let f = use_air(w, rest_of(line), out, a);
-    let world = f.world;
-    let e = put_byte(out, f.at, 10);
-    Flown { world, at: e }
+    Flown {
+        at: put_byte(out, f.at, 10),
+        world: f.world,
+    }
 }
 
 fn elapse_line(w: World, tail: &[u8], out: &mut [u8], at: usize) -> Flown
     ensures { Flies LINE-MOST (elapse_line (world_of w) (number_after tail.now)) (page out.old at) (world_of result.world) (page out.new result.at) }
 {
-    let v = number_after(tail);
-    let Number::Value(n) = v else {
+    let Number::Value(n) = number_after(tail) else {
         return refuse_line(w, out, at);
     };
     if !both_ready(w) {
         return refuse_line(w, out, at);
     }
     let f = elapse_both(w, n, out, at);
-    let world = f.world;
-    let e = put_byte(out, f.at, 10);
-    Flown { world, at: e }
+    Flown {
+        at: put_byte(out, f.at, 10),
+        world: f.world,
+    }
 }
 
 // Of how many letters a line speaks, where so many are under way; 0 where it is refused.
+#[tactic(auto, unfolding(crate::specs::Lines::count_in, crate::specs::Lines::count_of))]
 fn count_in(have: u64, tail: &[u8]) -> u64
     ensures { result ≡ count_in have tail.now }
 {
     if tail.len() == 0 {
         return have;
     }
-    let v = number_after(tail);
-    let Number::Value(n) = v else {
-        return 0;
-    };
-    let k = n as u64;
-    if k <= have {
-        return k;
+    match number_after(tail) {
+        Number::Value(n) if n as u64 <= have => n as u64,
+        _ => 0,
     }
-    0
 }
 
 fn under_way(c: Channel) -> u64
@@ -119,8 +116,7 @@ fn carry_line(w: World, number: u64, tail: &[u8], hear: bool, out: &mut [u8], at
     if !both_ready(w) {
         return refuse_line(w, out, at);
     }
-    let held = w.held;
-    let k = count_in(under_way(held), tail);
+    let k = count_in(under_way(w.held), tail);
     if k == 0 {
         return refuse_line(w, out, at);
     }
@@ -138,10 +134,8 @@ fn cut_line(w: World, number: u64, tail: &[u8], out: &mut [u8], at: usize) -> Fl
         return refuse_line(w, out, at);
     }
     let f = cut_both(w, out, at);
-    let world = f.world;
-    let held = world.held;
     let e = put_byte(out, f.at, 10);
-    carry(world, number, under_way(held), false, out, e)
+    carry(f.world, number, under_way(f.world.held), false, out, e)
 }
 
 // A line for both ends or the channel, by the number of its word.

@@ -1,10 +1,8 @@
-use Rattle.flight_bench.proofs.Endings.{air-unset, air-set}
-use borrow.Author.Tests.{not-true, not-false}
-use Rattle.text.proofs.Pages.{after}
+use Rattle.text.specs.Letters.{ascii}
+use Rattle.flight_bench.specs.Endings.{states_of, air_names, air_states}
+use Rattle.flight_bench.proofs.Endings.{named}
 use Rattle.flight_bench.proofs.ending.put_air.Goals as goal
 
-pub returns-then-not-s : goal.returns-then-not-s
-returns-then-not-s c = rw (air-unset c.args.s (not-true c.args.s.ready c.if-not-s.true)) c.put_text.ensures
-
 pub returns : goal.returns
-returns c = rw (air-set c.args.s (not-false c.args.s.ready c.if-not-s.false)) (after c.put_text-a.ensures c.put_modules.ensures)
+unfolding air_states
+returns c = rw (named c.args.s.ready (ascii "air") (states_of air_names c.args.s.link.at) (ascii " not set\n")) at c.put_end.ensures

@@ -7,4 +7,4 @@ use Rattle.flight_bench.proofs.trace.begin.Goals as goal
 
 pub returns : goal.returns
 unfolding begun ground.begun air.begun
-returns c = record { number_is = refl; world_is = rw (c.empty-held.ensures, c.idle_link-above.ensures, c.idle_link-below.ensures); text_is = c.put_text-at.ensures; short = lit≤ tt }
+returns c = record { number_is = refl; world_is = rw (c.empty.ensures, c.idle_link-2.ensures, c.idle_link.ensures); text_is = c.put_text-at.ensures; short = lit≤ tt }

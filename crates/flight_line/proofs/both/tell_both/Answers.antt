@@ -7,4 +7,4 @@ use Rattle.flight_line.proofs.both.tell_both.Goals as goal
 
 pub returns : goal.returns
 unfolding both_text
-returns c = record { world_is = refl; text_is = after c.put_text-a.ensures (after c.put_ground-e.ensures.text_is (after c.put_text-c.ensures c.put_air-d.ensures.text_is)); short = both-short c.put_ground-e.ensures c.put_air-d.ensures (lit≤ tt) (lit≤ tt) }
+returns c = record { world_is = refl; text_is = after c.put_text-a.ensures (after c.put_ground-e.ensures.text_is (after c.put_text-c.ensures c.put_air.ensures.text_is)); short = both-short c.put_ground-e.ensures c.put_air.ensures (lit≤ tt) (lit≤ tt) }

@@ -19,20 +19,14 @@ returns-in_default c = let line = c.args.line.now in
     rw (← is, ← c.parse_line-told.ensures, c.in_default.is) c.refuse.ensures
 
 pub slice_bounds-octets-end : goal.slice_bounds-octets-end
-slice_bounds-octets-end c = omega (arith, c.least-m.ensures.within, c.parse_line-told.auto.octets, room_of 2048 c.line_room-octets.ensures)
+slice_bounds-octets-end c = omega (arith, c.least.ensures.within, c.parse_line-told.auto.octets, room_of 2048 c.line_room-octets.ensures)
 
-pub slice_bounds-turn_ground-end : goal.slice_bounds-turn_ground-end
-slice_bounds-turn_ground-end c = sym (length-take-le _ _ (omega (arith, c.least-m.ensures.within, c.parse_line-told.auto.octets, room_of 2048 c.line_room-octets.ensures)))
-
-pub slice_bounds-octets-end-2 : goal.slice_bounds-octets-end-2
-slice_bounds-octets-end-2 c = omega (arith, c.least-m.ensures.within, c.parse_line-told.auto.octets, room_of 2048 c.line_room-octets.ensures)
-
-pub slice_bounds-put_answer-end : goal.slice_bounds-put_answer-end
-slice_bounds-put_answer-end c = sym (length-take-le _ _ (omega (arith, c.least-m.ensures.within, c.parse_line-told.auto.octets, room_of 2048 c.line_room-octets.ensures)))
+pub slice_bounds-came-end : goal.slice_bounds-came-end
+slice_bounds-came-end c = sym (length-take-le _ _ (omega (arith, c.least.ensures.within, c.parse_line-told.auto.octets, room_of 2048 c.line_room-octets.ensures)))
 
 pub returns : goal.returns
 unfolding ground_asked ground_said parsed_in
-returns c = let l = c.least-m in
+returns c = let l = c.least in
     let line = c.args.line.now in
     let long = room_of 2048 c.line_room-octets.ensures in
     let octets = c.parse_line-told.new.octets in
@@ -40,4 +34,4 @@ returns c = let l = c.least-m in
     let whole = c.parse_line-told.auto.octets ∙ long in
     let few : length (take l.result octets) ≤ 2048 = omega (arith, l.ensures.within, length-take l.result octets, min-le_left l.result (length octets)) in
     rw (← is, ← c.parse_line-told.ensures, c.in-Makes.is, ← take-least c.in-Makes.n 2048 octets whole, ← l.ensures.is, ← c.turn_ground-t.ensures)
-    (record { world_is = refl; text_is = c.put_answer-a.ensures.text_is; short = le_trans (c.put_answer-a.ensures.short few) (lit≤ tt) })
+    (record { world_is = refl; text_is = c.put_answer.ensures.text_is; short = le_trans (c.put_answer.ensures.short few) (lit≤ tt) })

@@ -7,4 +7,4 @@ use Rattle.flight_line.proofs.line.ground_line.Goals as goal
 
 pub returns : goal.returns
 unfolding ground_line ended
-returns c = let f = c.use_ground-f.ensures in rw (← c.rest_of.ensures) (record { world_is = f.world_is; text_is = after (after c.put_text-a.ensures f.text_is) c.put_byte-e.ensures; short = line-short (ascii "ground ") (lit≤ tt) f })
+returns c = let f = c.use_ground-f.ensures in rw (← c.rest_of.ensures) (record { world_is = f.world_is; text_is = after (after c.put_text-a.ensures f.text_is) c.put_byte.ensures; short = line-short (ascii "ground ") (lit≤ tt) f })

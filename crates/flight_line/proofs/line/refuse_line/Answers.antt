@@ -7,4 +7,4 @@ use Rattle.flight_line.proofs.line.refuse_line.Goals as goal
 
 pub returns : goal.returns
 unfolding refused_line ended
-returns c = let f = c.refuse-f.ensures in record { world_is = f.world_is; text_is = after f.text_is c.put_byte-a.ensures; short = line-short [] (lit≤ tt) f }
+returns c = let f = c.refuse-f.ensures in record { world_is = f.world_is; text_is = after f.text_is c.put_byte.ensures; short = line-short [] (lit≤ tt) f }
