@@ -5,28 +5,22 @@ use Rattle.script.proofs.Playing.{well-found, shown-line}
 use Rattle.flight_bench.proofs.Playing.{plays-none, plays-failed, plays-line}
 use Rattle.flight_bench.proofs.player.run.Goals as goal
 
-pub loop-turns-init : goal.loop-turns-init
-loop-turns-init c = (refl, refl, refl, λ n b a f d. rw c.start-input.ensures at d)
+pub loop-turn-init : goal.loop-turn-init
+loop-turn-init c = (refl, refl, refl, λ n b a f d. rw c.start-input.ensures at d)
 
 pub returns-then-not-l : goal.returns-then-not-l
-returns-then-not-l c = let v = c.loop-turns.invariant in
+returns-then-not-l c = let v = c.loop-turn.invariant in
     let l = c.pull_line-l.ensures in
     v.3 _ _ _ _ (plays-none (not-true _ c.if-not-l.true) (λ well. rw v.1 at (l.line_is well)) l.room)
 
-pub slice_bounds-add_line-end-in-loop-turns : goal.slice_bounds-add_line-end-in-loop-turns
-slice_bounds-add_line-end-in-loop-turns c = c.shown-n.ensures.there.1
+pub slice_bounds-add_line-end-in-loop-turn : goal.slice_bounds-add_line-end-in-loop-turn
+slice_bounds-add_line-end-in-loop-turn c = c.shown-n.ensures.there.1
 
 pub add_line-e-requires : goal.add_line-e-requires
-add_line-e-requires c = omega (arith, c.pull_line-l.ensures.room, c.loop-turns.invariant.2, c.requires)
+add_line-e-requires c = omega (arith, c.pull_line-l.ensures.room, c.loop-turn.invariant.2, c.requires)
 
-pub overflow_sub-turns : goal.overflow_sub-turns
-overflow_sub-turns c = omega (arith, c.loop-turns-test.true)
-
-pub loop-turns-smaller : goal.loop-turns-smaller
-loop-turns-smaller c = omega (arith, c.loop-turns-test.true)
-
-pub loop-turns-preserved : goal.loop-turns-preserved
-loop-turns-preserved c = let v = c.loop-turns.invariant in
+pub loop-turn-preserved : goal.loop-turn-preserved
+loop-turn-preserved c = let v = c.loop-turn.invariant in
     let l = c.pull_line-l.ensures in
     let k = c.pull_line-l.auto in
     let d = c.add_line-e.ensures in
@@ -38,4 +32,4 @@ loop-turns-preserved c = let v = c.loop-turns.invariant in
     )
 
 pub returns : goal.returns
-returns c = c.loop-turns.invariant.3 _ _ _ _ plays-failed
+returns c = c.loop-turn.invariant.3 _ _ _ _ plays-failed
