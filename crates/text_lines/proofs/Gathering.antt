@@ -1,43 +1,46 @@
--- One turn of the gatherer, as laws on what is left of the piece. Assumes nothing.
-use mathlib.Core.Path.{◌≡◌}
+-- What the gatherer finds, by where the first line feed stands. Assumes nothing.
+use mathlib.Core.Path.{◌≡◌, refl, ◌∙◌}
 use mathlib.Core.Bool.{true, false}
 use mathlib.Core.List.{List, [], ◌∷◌}
-use Prim.Native.Nat.{ℕ, ◌+◌, ◌≤◌, ◌<◌}
+use Prim.Native.Nat.{ℕ, zero, suc, ◌+◌, ◌-◌, ◌≤◌, ◌<◌, min}
 use native.Mathlib.Omega.{arith}
-use borrow.Author.Tests.{eq-eqb, ne_eqb}
-use lib.ListN.{length, get_or, drop, drop_of_length-le}
-use Rattle.text.specs.Page.{Page, wrote, Writes}
-use Rattle.text.proofs.Laws.{next}
-use Rattle.text_lines.specs.Lines.{front, before, gathered, Gathers}
+use borrow.Author.Tests.{ne_eqb}
+use lib.ListN.{length, drop, take, drop_of_length-le}
+use mathlib.Core.Logic.{⊎_elim}
+use native.Mathlib.Nat.{min-eq_left, min-eq_right, le_refl}
+use Rattle.text.proofs.Laws.{part-all, le-or-lt}
+use Rattle.std.specs.Prelude.{◌≢◌}
+use Rattle.std.specs.List.{HoldsAt, AllWithin}
+use Rattle.text.specs.Page.{Page, Writes}
+use Rattle.text_lines.specs.Lines.{front, gathered, Gathers}
 
-module _ (s : List ℕ) (i : ℕ) where
-  here-feed : i < length s → get_or s i 0 ≡ 10 → gathered (drop i s) ≡ front [] 1 true
-  here-feed h e = rw (next s i h, eq-eqb _ _ e)
+-- the first one at k
+pub feed_at : (s : List ℕ) (k : ℕ) → k < length s → HoldsAt (λ x. x ≡ 10) s k → AllWithin (λ x. x ≢ 10) s 0 k → gathered s ≡ front (take k s) (k + 1) true
+feed_at [] k h hit miss = absurd (omega arith)
+feed_at (o ∷ os) zero h hit miss = rw (hit 0)
+feed_at (o ∷ os) (suc k) h hit miss =
+    let n : suc k + 1 ≡ suc (k + 1) = omega arith in
+    rw (ne_eqb o 10 (miss 0 0 (omega arith) (omega arith)), feed_at os k (omega arith) (λ d. hit d) (λ j d lo hi. miss (suc j) d (omega arith) (omega arith)), n)
 
-  here-octet : i < length s → (get_or s i 0 ≡ 10 → ⊥) → gathered (drop i s) ≡ before (get_or s i 0) (gathered (drop (i + 1) s))
-  here-octet h n = rw (next s i h, ne_eqb _ _ n)
+-- or none
+pub feed_none : (s : List ℕ) → AllWithin (λ x. x ≢ 10) s 0 (length s) → gathered s ≡ front s (length s) false
+feed_none [] miss = refl
+feed_none (o ∷ os) miss =
+    rw (ne_eqb o 10 (miss 0 0 (omega arith) (omega arith)), feed_none os (λ j d lo hi. miss (suc j) d (omega arith) (omega arith)))
 
-  here_end : length s ≤ i → gathered (drop i s) ≡ front [] 0 false
-  here_end h = rw (drop_of_length-le s h)
+-- what is left of a piece from a place on, as far as it is there
+pub left-from : (s : List ℕ) (a from : ℕ) → a ≡ min from (length s) → take (length s - a) (drop a s) ≡ drop from s
+left-from s a from e =
+    part-all s a (length s) refl
+    ∙ ⊎_elim (λ (h : from ≤ length s). rw (e, min-eq_left h))
+    (λ (h : length s < from). let l : length s ≤ from = omega arith in rw (e, min-eq_right l, drop_of_length-le s l, drop_of_length-le s (le_refl (length s))))
+    (le-or-lt from (length s))
 
-  -- an octet that ends no line goes to those that are kept
-  pub octet-goes : {p q : Page} → i < length s → (get_or s i 0 ≡ 10 → ⊥) → Writes p (get_or s i 0 ∷ []) q
-      → (i + 1 + (gathered (drop (i + 1) s)).used ≡ i + (gathered (drop i s)).used) × ((gathered (drop (i + 1) s)).ended ≡ (gathered (drop i s)).ended)
-      × (wrote q (gathered (drop (i + 1) s)).octets ≡ wrote p (gathered (drop i s)).octets)
-  octet-goes {p} {q} h n w = let e = here-octet h n in (rw e (omega arith), rw e, rw (e, w.is))
+module _ (s : List ℕ) (from : ℕ) (rest : List ℕ) (is : rest ≡ drop from s) (p : Page) (n len : ℕ) (q : Page) where
+  pub gathers-feed : (k : ℕ) → n ≡ from + k + 1 → gathered rest ≡ front (take k rest) (k + 1) true → Writes p (take k rest) q
+      → Gathers s from p (record { next = n; len = len; ended = true }) q
+  gathers-feed k e g w = record { next_is = rw (← is, g) (omega arith); ended_is = rw (← is, g); kept_is = rw (← is, g) w }
 
-  module _ {from len : ℕ} {p q : Page} where
-    -- the line feed ends the line
-    pub feed-ends : i < length s → get_or s i 0 ≡ 10 → i + (gathered (drop i s)).used ≡ from + (gathered (drop from s)).used
-        → (gathered (drop i s)).ended ≡ (gathered (drop from s)).ended → wrote q (gathered (drop i s)).octets ≡ wrote p (gathered (drop from s)).octets
-        → Gathers s from p (record { next = i + 1; len = len; ended = true }) q
-    feed-ends h e u d w = let f = here-feed h e in
-        record { next_is = rw f at u; ended_is = rw f at d; kept_is = record { is = rw f at w } }
-
-    -- the piece ends first
-    pub piece-ends : length s ≤ i → i + (gathered (drop i s)).used ≡ from + (gathered (drop from s)).used
-        → (gathered (drop i s)).ended ≡ (gathered (drop from s)).ended → wrote q (gathered (drop i s)).octets ≡ wrote p (gathered (drop from s)).octets
-        → Gathers s from p (record { next = i; len = len; ended = false }) q
-    piece-ends h u d w = let f = here_end h in
-        let n : i + 0 ≡ from + (gathered (drop from s)).used = rw f at u in
-        record { next_is = omega arith; ended_is = rw f at d; kept_is = record { is = rw f at w } }
+  pub gathers-rest : n ≡ from + length rest → gathered rest ≡ front rest (length rest) false → Writes p rest q
+      → Gathers s from p (record { next = n; len = len; ended = false }) q
+  gathers-rest e g w = record { next_is = rw (← is, g) (omega arith); ended_is = rw (← is, g); kept_is = rw (← is, g) w }

@@ -2,7 +2,7 @@
 ghost use Rattle.text.specs.Page.{page};
 ghost use Rattle.text_lines.specs.Lines.{Gathers};
 
-use text::put_byte;
+use text::{least, put_text};
 
 // The piece is used up to `next`, `len` octets of the line are kept, and the line has `ended` or goes on in the next piece.
 #[derive(Drop)]
@@ -16,23 +16,17 @@ pub struct Gathered {
 pub fn gather(piece: &[u8], from: usize, len: usize, line: &mut [u8]) -> Gathered
     ensures { Gathers piece.now from (page line.old len) result (page line.new result.len) }
 {
-    let mut n = len;
-    let mut i = from;
-    while i < piece.len() {
-        let b = piece[i];
-        i += 1;
-        if b == 10 {
-            return Gathered {
-                next: i,
-                len: n,
-                ended: true,
-            };
-        }
-        n = put_byte(line, n, b);
-    }
-    Gathered {
-        next: i,
-        len: n,
-        ended: false,
+    let rest = &piece[least(from, piece.len())..];
+    match rest.iter().position(|b| *b == b'\n') {
+        Some(k) => Gathered {
+            next: from + k + 1,
+            len: put_text(line, len, &rest[..k]),
+            ended: true,
+        },
+        None => Gathered {
+            next: from + rest.len(),
+            len: put_text(line, len, rest),
+            ended: false,
+        },
     }
 }

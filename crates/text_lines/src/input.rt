@@ -11,6 +11,9 @@ const STDOUT: i32 = 1;
 
 const STDERR: i32 = 2;
 
+// No run reads a line in as many pieces.
+const TURNS: u64 = 1099511627776;
+
 // A page that has got this far is written out.
 pub const FULL: usize = 65536;
 
@@ -179,7 +182,7 @@ fn refill(stdin: Stdin, l: Line, chunk: &mut [u8], out: &[u8]) -> Line
     with_input(l, input, false)
 }
 
-// The next line, if there is one. The input has an end, but a proved loop has to have one, so it counts down from a number that no run uses up.
+// The next line, if there is one. The input has an end, but a proved loop has to have one, so it turns as often as no run does.
 pub fn pull_line(
     stdin: Stdin,
     input: Input,
@@ -191,8 +194,7 @@ pub fn pull_line(
     ensures { Pulls (length line.old) (left_of input chunk.old) result chunk.new line.new }
 {
     let mut l = start_line(input, at, out);
-    let mut turns: u64 = 1099511627776;
-    while turns > 0 {
+    for _ in 0..TURNS {
         l = extend(l, chunk, line);
         if l.found {
             return l;
@@ -204,7 +206,6 @@ pub fn pull_line(
         if l.failed {
             return l;
         }
-        turns -= 1;
     }
     l.input.open = false;
     extend(l, chunk, line)

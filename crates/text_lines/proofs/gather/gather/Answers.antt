@@ -1,20 +1,15 @@
-use mathlib.Core.Path.{refl, ◌∙◌}
-use Rattle.text_lines.proofs.Gathering.{feed-ends, octet-goes, piece-ends}
+use mathlib.Core.Path.{refl}
+use Rattle.std.proofs.Common.{◌≢◌, ◌≡◌, rules, tests}
+use Rattle.std.proofs.lemmas.Iterator.{YieldsList-from_slice, IsFirst-from_position}
+use Rattle.text_lines.proofs.Gathering.{feed_at, feed_none, left-from, gathers-feed, gathers-rest}
 use Rattle.text_lines.proofs.gather.gather.Goals as goal
 
-pub loop-i-init : goal.loop-i-init
-loop-i-init c = (refl, refl, refl, refl)
+pub returns-in-Some : goal.returns-in-Some
+returns-in-Some c = let s = c.args.piece.now in
+    let f = IsFirst-from_position _ _ _ (λ x. x ≡ 10) (λ x. x ≢ 10) c.in-Some.ensures.ran (YieldsList-from_slice _ cc) (λ x q k. search (rules, tests)) (λ x q k. search (rules, tests)) in
+    gathers-feed s c.args.from _ (left-from s _ c.args.from c.least.ensures.is) _ _ _ _ c.in-Some.k refl (feed_at _ c.in-Some.k f.0 f.1 f.2) c.put_text.ensures
 
-pub returns-then-b-eq10 : goal.returns-then-b-eq10
-returns-then-b-eq10 c = let k = c.loop-i in
-    feed-ends _ k.i c.loop-i-test.true c.if-b-eq10.true k.invariant.1 k.invariant.2 k.invariant.3
-
-pub loop-i-preserved : goal.loop-i-preserved
-loop-i-preserved c = let k = c.loop-i in
-    let g = c.put_byte-n in
-    let m = octet-goes _ k.i c.loop-i-test.true c.if-b-eq10.false g.ensures in
-    (g.auto.out ∙ k.invariant.0, m.0 ∙ k.invariant.1, m.1 ∙ k.invariant.2, m.2 ∙ k.invariant.3)
-
-pub returns : goal.returns
-returns c = let k = c.loop-i in
-    piece-ends _ k.i c.loop-i-test.false k.invariant.1 k.invariant.2 k.invariant.3
+pub returns-in-None : goal.returns-in-None
+returns-in-None c = let s = c.args.piece.now in
+    let f = IsFirst-from_position _ _ _ (λ x. x ≡ 10) (λ x. x ≢ 10) c.in-None.ensures.ran (YieldsList-from_slice _ cc) (λ x q k. search (rules, tests)) (λ x q k. search (rules, tests)) in
+    gathers-rest s c.args.from _ (left-from s _ c.args.from c.least.ensures.is) _ _ _ _ refl (feed_none _ f) c.put_text-in-None.ensures
