@@ -3,8 +3,7 @@ use Rattle.std.specs.Prelude.{true, false, List, ℕ, eqb}
 use Rattle.refusals.specs.Refusals.{SCRIPT-LINE}
 use Rattle.text.specs.Letters.{ascii}
 use Rattle.text.specs.Text.{pick}
-use Rattle.text.specs.declared.digits.Number.{Number}
-use Rattle.text.specs.declared.digits.Number.TheVariants.{Value, Unread}
+use Rattle.std.specs.Prelude.{Option, Some, None}
 use Rattle.air_answer.specs.declared.record.AirLink.{AirLink}
 use Rattle.air_answer.specs.Record.{fresh}
 use Rattle.air_answer.specs.Fresh.{opened}
@@ -30,9 +29,9 @@ unfoldable pub open_reply : Setup → Opened → Reply Setup
 open_reply b o = pick (eqb o.refusal 0) (record { box = ready_setup o.link; text = ascii "ok" }) (refused_reply b o.refusal)
 
 -- F121: "one number, EM3's setting; another count is 17 before 3"
-unfoldable pub setting_reply : Setup → Number → Reply Setup
-setting_reply b (Value n) = open_reply b (opened n)
-setting_reply b Unread = refused_reply b SCRIPT-LINE
+unfoldable pub setting_reply : Setup → Option ℕ → Reply Setup
+setting_reply b (Some n) = open_reply b (opened n)
+setting_reply b None = refused_reply b SCRIPT-LINE
 
 -- a box before its setting, and the first line
 unfoldable pub begun : Reply Setup

@@ -13,7 +13,6 @@ use air_line::line::{LineCall, parse_line};
 use refusals::SCRIPT_LINE;
 use script::line::{number_after, set_part};
 use script::room::line_room;
-use text::digits::Number;
 use text::words::put_refused;
 use text::{least, put_text};
 
@@ -70,7 +69,7 @@ fn set_line(b: Setup, tail: &[u8], out: &mut [u8], at: usize) -> Replied
     ensures { Replies (setting_reply b (number_after tail.now)) (page out.old at) result.setup (page out.new result.at) }
 {
     let v = number_after(tail);
-    let Number::Value(n) = v else {
+    let Some(n) = v else {
         return refuse_line(b, SCRIPT_LINE, out, at);
     };
     let o = open(n);
@@ -93,10 +92,8 @@ pub fn answer_line(b: Setup, line: &[u8], out: &mut [u8], at: usize) -> Replied
     if b.ready {
         return play(b, line, out, at);
     }
-    let s = set_part(line);
-    let from = s.from;
-    if s.found {
-        return set_line(b, &line[from..], out, at);
+    match set_part(line) {
+        Some(from) => set_line(b, &line[from..], out, at),
+        None => refuse_line(b, SCRIPT_LINE, out, at),
     }
-    refuse_line(b, SCRIPT_LINE, out, at)
 }

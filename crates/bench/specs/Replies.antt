@@ -1,5 +1,5 @@
 -- The answer to one line of a script, and the box after it.
-use Rattle.std.specs.Prelude.{true, false, List, ℕ, eqb, replicate}
+use Rattle.std.specs.Prelude.{true, false, List, ℕ, eqb, replicate, Option, Some, None}
 use Rattle.refusals.specs.Refusals.{SCRIPT-LINE}
 use Rattle.text.specs.Letters.{ascii}
 use Rattle.text.specs.Text.{pick}
@@ -29,8 +29,12 @@ answer_reply a s = record { box = ready_setup a.link; text = answer_text a.said 
 unfoldable pub open_reply : Setup → Opened → Reply Setup
 open_reply b o = pick (eqb o.refusal 0) (record { box = ready_setup o.link; text = ascii "ok" }) (refused_reply b o.refusal)
 
+unfoldable pub listed_reply : Setup → Option (List ℕ) → Reply Setup
+listed_reply b (Some s) = open_reply b (opened s)
+listed_reply b None = refused_reply b SCRIPT-LINE
+
 unfoldable pub settings_reply : Setup → List ℕ → Reply Setup
-settings_reply b tail = pick (settings_in tail).good (open_reply b (opened (settings_in tail).list)) (refused_reply b SCRIPT-LINE)
+settings_reply b tail = listed_reply b (settings_in tail)
 
 -- a box before its settings, and the first line
 unfoldable pub begun : Reply Setup

@@ -80,12 +80,9 @@ fn play(b: Setup, line: &[u8], out: &mut [u8], at: usize) -> Replied
 fn set_line(b: Setup, tail: &[u8], out: &mut [u8], at: usize) -> Replied
     ensures { Replies (settings_reply b tail.now) (page out.old at) result.setup (page out.new result.at) }
 {
-    let set = parse_settings(tail);
-    let good = set.good;
-    if !good {
+    let Some(list) = parse_settings(tail) else {
         return refuse_line(b, SCRIPT_LINE, out, at);
-    }
-    let list = set.list;
+    };
     let o = open(list);
     let refusal = o.refusal;
     if refusal != 0 {
@@ -106,10 +103,8 @@ pub fn answer_line(b: Setup, line: &[u8], out: &mut [u8], at: usize) -> Replied
     if b.ready {
         return play(b, line, out, at);
     }
-    let s = set_part(line);
-    let from = s.from;
-    if s.found {
-        return set_line(b, &line[from..], out, at);
+    match set_part(line) {
+        Some(from) => set_line(b, &line[from..], out, at),
+        None => refuse_line(b, SCRIPT_LINE, out, at),
     }
-    refuse_line(b, SCRIPT_LINE, out, at)
 }

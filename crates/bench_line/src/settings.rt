@@ -5,34 +5,16 @@ ghost use Rattle.bench_line.specs.Settings.{settings_in};
 use link::moves::TIMERS;
 use text::digits::number_step;
 
-// A setting for each timer; zeros beside `good: false`.
-#[derive(Drop)]
-pub struct Settings {
-    pub good: bool,
-    pub list: [u32; TIMERS],
-}
-
 // A whole number for each timer, each after one space, and then the end.
-pub fn parse_settings(s: &[u8]) -> Settings
+pub fn parse_settings(s: &[u8]) -> Option<[u32; TIMERS]>
     ensures { result ≡ settings_in s.now }
 {
     let mut list = [0u32; TIMERS];
     let mut at = 0;
-    let mut i = 0;
-    while i < TIMERS {
-        let n = number_step(&s[at..]);
-        if !n.good {
-            return Settings {
-                good: false,
-                list: [0; TIMERS],
-            };
-        }
-        list[i] = n.value;
+    for setting in list.iter_mut() {
+        let n = number_step(&s[at..])?;
+        *setting = n.value;
         at += n.used;
-        i += 1;
     }
-    Settings {
-        good: at == s.len(),
-        list,
-    }
+    if at == s.len() { Some(list) } else { None }
 }

@@ -11,8 +11,7 @@ use lib.ListN.{length, length-append, length-take}
 use Rattle.text.specs.Letters.{ascii}
 use Rattle.text.specs.Text.{pick}
 use Rattle.text.specs.Page.{Page}
-use Rattle.text.specs.declared.digits.Number.{Number}
-use Rattle.text.specs.declared.digits.Number.TheVariants.{Value, Unread}
+use Rattle.std.specs.Prelude.{Option, Some, None}
 use Rattle.script.specs.Fields.{number_after}
 use Rattle.script.specs.Replies.{Reply}
 use Rattle.channel.specs.Channel.{held_in}
@@ -50,14 +49,14 @@ pub held-most : (c : Channel) → length c.letters ≡ 17 → length (held_in c)
 unfolding held_in
 held-most c e = omega (arith, length-take c.n c.letters, min-le_right c.n (length c.letters))
 
-count-of : (have : ℕ) (v : Number) → count_of have v ≤ have
+count-of : (have : ℕ) (v : Option ℕ) → count_of have v ≤ have
 unfolding count_of
-count-of have (Value n) = go (leb n have) (leb-true n have)
+count-of have (Some n) = go (leb n have) (leb-true n have)
   where
     go : (b : Bool) → (b ≡ true → n ≤ have) → pick b n 0 ≤ have
     go true h = h refl
     go false h = omega arith
-count-of have Unread = omega arith
+count-of have None = omega arith
 
 pub count_most : (have : ℕ) (tail : List ℕ) → count_in have tail ≤ have
 unfolding count_in

@@ -8,7 +8,7 @@ use lib.Dec.{eqb}
 use lib.ListN.{length, take}
 use Rattle.text.specs.Text.{pick, word_end}
 use Rattle.text.specs.Words.{found_from}
-use Rattle.text.specs.declared.digits.Number.TheVariants.{Value}
+use Rattle.std.specs.Prelude.{Some}
 use Rattle.world.specs.World.{World}
 use Rattle.delivery.specs.Deliveries.{onto, carried}
 use Rattle.flight_line.specs.Users.{is_user, refused}
@@ -80,11 +80,11 @@ module _ (w : World) (number : ℕ) (tail : List ℕ) (hear : Bool) where
 
 -- an elapse by whether both ends have their settings
 module _ (w : World) (n : ℕ) where
-  pub elapse-unset : both_ready w ≡ false → elapse_line w (Value n) ≡ refused_line w
+  pub elapse-unset : both_ready w ≡ false → elapse_line w (Some n) ≡ refused_line w
   unfolding elapse_line
   elapse-unset h = by (both_ready w) false _ _ h
 
-  pub elapse-goes : both_ready w ≡ true → elapse_line w (Value n) ≡ ended (elapse_reply w n)
+  pub elapse-goes : both_ready w ≡ true → elapse_line w (Some n) ≡ ended (elapse_reply w n)
   unfolding elapse_line
   elapse-goes h = by (both_ready w) true _ _ h
 

@@ -4,8 +4,7 @@ use Rattle.refusals.specs.Refusals.{SCRIPT-LINE}
 use Rattle.text.specs.Letters.{ascii}
 use Rattle.text.specs.Text.{pick, both, word_end}
 use Rattle.text.specs.Words.{found_from}
-use Rattle.text.specs.declared.digits.Number.{Number}
-use Rattle.text.specs.declared.digits.Number.TheVariants.{Value, Unread}
+use Rattle.std.specs.Prelude.{Option, Some, None}
 use Rattle.script.specs.Fields.{number_after}
 use Rattle.script.specs.Replies.{Reply}
 use Rattle.script.specs.Trace.{bumped}
@@ -43,9 +42,9 @@ unfoldable pub air_line : World → List ℕ → Reply World
 air_line w line = ended (onto (ascii "air ") (air_user w (rest_of line)))
 
 -- `elapse N`
-unfoldable pub elapse_line : World → Number → Reply World
-elapse_line w (Value n) = pick (both_ready w) (ended (elapse_reply w n)) (refused_line w)
-elapse_line w Unread = refused_line w
+unfoldable pub elapse_line : World → Option ℕ → Reply World
+elapse_line w (Some n) = pick (both_ready w) (ended (elapse_reply w n)) (refused_line w)
+elapse_line w None = refused_line w
 
 -- what `under_way` gives: how many letters there are, which is no more than there are slots
 pub record UnderWay (c : Channel) (r : ℕ) : Type 0 where
@@ -53,9 +52,9 @@ pub record UnderWay (c : Channel) (r : ℕ) : Type 0 where
   pub most : r ≤ slots
 
 -- of how many `deliver` and `lose` speak: all that is under way, or N; 0 where N is more than that or is no number
-unfoldable pub count_of : ℕ → Number → ℕ
-count_of have (Value n) = pick (leb n have) n 0
-count_of have Unread = 0
+unfoldable pub count_of : ℕ → Option ℕ → ℕ
+count_of have (Some n) = pick (leb n have) n 0
+count_of have None = 0
 
 unfoldable pub count_in : ℕ → List ℕ → ℕ
 count_in have tail = pick (eqb (length tail) 0) have (count_of have (number_after tail))

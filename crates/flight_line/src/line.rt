@@ -14,7 +14,6 @@ use channel::{Channel, count};
 use delivery::carry::{Flown, carry};
 use refusals::SCRIPT_LINE;
 use script::line::number_after;
-use text::digits::Number;
 use text::words::find;
 use text::{put_byte, put_text, word_end};
 use world::state::World;
@@ -76,7 +75,7 @@ fn air_line(w: World, line: &[u8], out: &mut [u8], at: usize) -> Flown
 fn elapse_line(w: World, tail: &[u8], out: &mut [u8], at: usize) -> Flown
     ensures { Flies LINE-MOST (elapse_line (world_of w) (number_after tail.now)) (page out.old at) (world_of result.world) (page out.new result.at) }
 {
-    let Number::Value(n) = number_after(tail) else {
+    let Some(n) = number_after(tail) else {
         return refuse_line(w, out, at);
     };
     if !both_ready(w) {
@@ -98,7 +97,7 @@ fn count_in(have: u64, tail: &[u8]) -> u64
         return have;
     }
     match number_after(tail) {
-        Number::Value(n) if n as u64 <= have => n as u64,
+        Some(n) if n as u64 <= have => n as u64,
         _ => 0,
     }
 }

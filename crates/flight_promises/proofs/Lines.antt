@@ -10,8 +10,7 @@ use Rattle.refusals.specs.Refusals.{SCRIPT-LINE}
 use Rattle.text.specs.Letters.{ascii}
 use Rattle.text.specs.Text.{pick, word_end}
 use Rattle.text.specs.Words.{found_from}
-use Rattle.text.specs.declared.digits.Number.{Number}
-use Rattle.text.specs.declared.digits.Number.TheVariants.{Value, Unread}
+use Rattle.std.specs.Prelude.{Option, Some, None}
 use Rattle.ground.specs.Runs as ground_runs
 use Rattle.ground.specs.declared.call.Call as ground
 use Rattle.air.specs.Runs as air_runs
@@ -183,10 +182,10 @@ kept-refused : (w : World) → Keeps w (refused_line w) [] []
 unfolding refused_line
 kept-refused w = kept-ended w (refused w SCRIPT-LINE) (nothing w SCRIPT-LINE)
 
-elapse-kept : (w : World) (v : Number) → Keeps w (elapse_line w v) (number_told is_of_ground w v) (number_told is_of_air w v)
+elapse-kept : (w : World) (v : Option ℕ) → Keeps w (elapse_line w v) (number_told is_of_ground w v) (number_told is_of_air w v)
 unfolding elapse_line number_told
-elapse-kept w (Value n) = either (both_ready w) (λ r. kept-ended w (elapse_reply w n) (kept-elapse w n)) (λ r. kept-refused w)
-elapse-kept w Unread = kept-refused w
+elapse-kept w (Some n) = either (both_ready w) (λ r. kept-ended w (elapse_reply w n) (kept-elapse w n)) (λ r. kept-refused w)
+elapse-kept w None = kept-refused w
 
 deliver-kept : (w : World) (number : ℕ) (tail : List ℕ) → Keeps w (carry_line w number tail true) (deliver_told is_of_ground w number tail) (deliver_told is_of_air w number tail)
 unfolding carry_line carry_count deliver_told count_told

@@ -10,8 +10,7 @@ use lib.Dec.{eqb, ltb, leb}
 use lib.ListN.{length, take, drop, length-drop}
 use Rattle.text.specs.Text.{pick, word_end}
 use Rattle.text.specs.Words.{found_from}
-use Rattle.text.specs.declared.digits.Number.{Number}
-use Rattle.text.specs.declared.digits.Number.TheVariants.{Value, Unread}
+use Rattle.std.specs.Prelude.{Option, Some, None}
 use Rattle.pdu_parts.specs.Lists.{no_list}
 use Rattle.ground.specs.declared.call.Call as ground_call
 use Rattle.air.specs.declared.call.Call as air_call
@@ -184,15 +183,15 @@ down-both : (w : World) → all_fit w.under ≡ true
 unfolding ground.heard_well air.heard_well
 down-both w h = both-fair w ground_call.TheVariants.Down air_call.TheVariants.Down refl refl h
 
-elapse-fair : (w : World) (v : Number) → all_fit w.under ≡ true → Fair (elapse_line w v).box (number_told reasons w v)
+elapse-fair : (w : World) (v : Option ℕ) → all_fit w.under ≡ true → Fair (elapse_line w v).box (number_told reasons w v)
 unfolding elapse_line number_told elapse_reply unless_refused elapse_told ended refused_line refused
-elapse-fair w (Value n) h =
+elapse-fair w (Some n) h =
     let b = both_hear w (ground_call.TheVariants.Elapse n) (air_call.TheVariants.Elapse n) in
     fair-by box (both_ready w)
     (λ r. fair-by box (eqb b.ground_end.refusal 0)
     (λ e. fair-by box (eqb b.air.refusal 0) (λ f. elapse-both w n h) (λ f. quiet w h)) (λ e. quiet w h))
     (λ r. quiet w h)
-elapse-fair w Unread h = quiet w h
+elapse-fair w None h = quiet w h
 
 cut-fair : (w : World) (number : ℕ) (tail : List ℕ) → all_fit w.under ≡ true → Fair (cut_line w number tail).box (cut_told reasons w tail)
 unfolding cut_line cut_told cut_reply then_lost ended refused_line refused
@@ -205,10 +204,10 @@ cut-fair w number tail h =
     (λ e. quiet w h)
 
 -- letters that come or are thrown away
-count-of : (have : ℕ) (n : Number) → count_of have n ≤ have
+count-of : (have : ℕ) (n : Option ℕ) → count_of have n ≤ have
 unfolding count_of
-count-of have (Value n) = pick-case (λ (k : ℕ). k ≤ have) (leb n have) (λ e. leb-true n have e) (λ e. omega arith)
-count-of have Unread = omega arith
+count-of have (Some n) = pick-case (λ (k : ℕ). k ≤ have) (leb n have) (λ e. leb-true n have e) (λ e. omega arith)
+count-of have None = omega arith
 
 count-in : (have : ℕ) (tail : List ℕ) → count_in have tail ≤ have
 unfolding count_in

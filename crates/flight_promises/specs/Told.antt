@@ -3,8 +3,7 @@
 use Rattle.std.specs.Prelude.{true, List, [], ◌∷◌, ◌++◌, ℕ, zero, suc, ◌+◌, eqb, ltb, length, take, drop}
 use Rattle.text.specs.Text.{pick, word_end}
 use Rattle.text.specs.Words.{found_from}
-use Rattle.text.specs.declared.digits.Number.{Number}
-use Rattle.text.specs.declared.digits.Number.TheVariants.{Value, Unread}
+use Rattle.std.specs.Prelude.{Option, Some, None}
 use Rattle.pdu_parts.specs.declared.lists.Listed.{Listed}
 use Rattle.pdu_parts.specs.Lists.{no_list}
 use Rattle.ground.specs.declared.call.Call as ground
@@ -59,9 +58,9 @@ module _ {X : Type 0} (t : Tell X) where
       (pick (eqb b.air.refusal 0) (both_told w (ground.TheVariants.Elapse n) (air.TheVariants.Elapse n)) [])
       []
 
-  unfoldable pub number_told : World → Number → List X
-  number_told w (Value n) = pick (both_ready w) (elapse_told w n) []
-  number_told w Unread = []
+  unfoldable pub number_told : World → Option ℕ → List X
+  number_told w (Some n) = pick (both_ready w) (elapse_told w n) []
+  number_told w None = []
 
   unfoldable pub cut_told : World → List ℕ → List X
   cut_told w tail = pick (eqb (length tail) 0) (pick (both_ready w) (both_told w ground.TheVariants.Down air.TheVariants.Down) []) []

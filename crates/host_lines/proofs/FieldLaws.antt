@@ -8,8 +8,9 @@ use borrow.Author.Tests.{leb-true, eq-eqb, ne_eqb}
 use lib.Dec.{leb}
 use lib.ListN.{length, get_or, take, drop}
 use Rattle.text.specs.Text.{pick, hex_good, hex_of, hex_into, octets_of, word_end, HexRead}
-use Rattle.text.specs.declared.Hex.{Hex}
-use Rattle.text.specs.declared.Hex.TheVariants as hex
+use Rattle.std.specs.Prelude.{Result, Ok, Err}
+use Rattle.text.specs.declared.HexFault.{HexFault}
+use Rattle.text.specs.declared.HexFault.TheVariants.{Long, Garbled}
 use Rattle.text.proofs.Laws.{part-all}
 use Rattle.text.proofs.Trip.{read-front}
 use Rattle.host_lines.specs.declared.fields.Field.{Field}
@@ -33,16 +34,15 @@ read_fits : (s : List ℕ) (room used : ℕ) → (held_by (hex_of room s) used).
 unfolding held_by hex_of
 read_fits s room used = go (hex_good s) (leb (length s / 2) room) refl
   where
-    go : (b f : Bool) → leb (length s / 2) room ≡ f → (held_by (pick b (pick f (hex.Octets (length s / 2)) hex.Long) hex.Garbled) used).count ≤ room
+    go : (b f : Bool) → leb (length s / 2) room ≡ f → (held_by (pick b (pick f (Ok (length s / 2)) (Err Long)) (Err Garbled)) used).count ≤ room
     go true true l = leb-true _ _ l
     go true false l = omega arith
     go false f l = omega arith
 
-read-used : (h : Hex) (used : ℕ) → (held_by h used).used ≤ used
+read-used : (h : Result ℕ HexFault) (used : ℕ) → (held_by h used).used ≤ used
 unfolding held_by
-read-used (hex.Octets n) used = omega arith
-read-used hex.Long used = omega arith
-read-used hex.Garbled used = omega arith
+read-used (Ok n) used = omega arith
+read-used (Err e) used = omega arith
 
 pub hold-none : (room : ℕ) (s o : List ℕ) → length s ≡ 0 → Holds room s no_field o
 unfolding hex_step
@@ -54,7 +54,7 @@ unfolding hex_step
 hold-bad room [] o h n = absurd (h refl)
 hold-bad room (c ∷ cs) o h n = record { is = rw (ne_eqb c 32 n); within = omega arith; fits = omega arith }
 
-pub hold-good : (s o after : List ℕ) (e : ℕ) (h : Hex) (r : Field) → (length s ≡ 0 → ⊥) → get_or s 0 0 ≡ 32 → e ≡ word_end (take (length s - 1) (drop 1 s)) → e + 1 ≤ length s
+pub hold-good : (s o after : List ℕ) (e : ℕ) (h : Result ℕ HexFault) (r : Field) → (length s ≡ 0 → ⊥) → get_or s 0 0 ≡ 32 → e ≡ word_end (take (length s - 1) (drop 1 s)) → e + 1 ≤ length s
     → HexRead o (take (e + 1 - 1) (drop 1 s)) h after → r ≡ held_by h (e + 1) → Holds (length o) s r after
 unfolding hex_step
 hold-good [] o after e h r some sp ends inside x is = absurd (some refl)

@@ -1,5 +1,5 @@
 -- Numbers read one after another. Assumes nothing.
-use mathlib.Core.Path.{◌≡◌, refl, ap, ◌∙◌}
+use mathlib.Core.Path.{◌≡◌, refl, sym, ap, subst, ◌∙◌}
 use mathlib.Core.Bool.{Bool, true, false}
 use mathlib.Core.List.{List}
 use Prim.Native.Nat.{ℕ, zero, suc, ◌+◌, ◌-◌, ◌≤◌}
@@ -9,7 +9,8 @@ use lib.Dec.{eqb}
 use lib.ListN.{length, take, drop, set, length-drop}
 use lib.Seq.{drop-drop}
 use Rattle.text.specs.Text.{pick}
-use Rattle.text.specs.Numbers.{step_of}
+use Rattle.std.specs.Prelude.{Option, Some, None, IfSome}
+use Rattle.text.specs.Numbers.{step_of, with_step}
 use Rattle.text.specs.declared.digits.Stepped.{Stepped}
 use Rattle.text.proofs.Laws.{part-all}
 use Rattle.text.proofs.Counting.{step-used}
@@ -23,25 +24,26 @@ module _ (k i : ℕ) (list s : List ℕ) (at : ℕ) (within : at ≤ length s) w
       let z : length (drop at s) ≡ 0 = omega (arith, length-drop at s) in
       rw (eq-eqb _ 0 z)
 
-  module _ (r : Stepped) (e : r ≡ step_of (take (length s - at) (drop at s))) (some : at ≡ length s → ⊥) where
-    here : r ≡ step_of (drop at s)
-    here = e ∙ ap step_of (part-all s at (length s) refl)
+  module _ (some : at ≡ length s → ⊥) where
+    here : (r : Option Stepped) → r ≡ step_of (take (length s - at) (drop at s)) → r ≡ step_of (drop at s)
+    here r e = e ∙ ap step_of (part-all s at (length s) refl)
 
     more : length (drop at s) ≡ 0 → ⊥
     more z = some (omega (arith, length-drop at s))
 
-    pub numbers_more : r.good ≡ true → numbers_from k (i + 1) (set list i r.value) (drop (at + r.used) s) ≡ numbers_from (suc k) i list (drop at s)
+    pub numbers-stop : None ≡ step_of (take (length s - at) (drop at s)) → no_numbers ≡ numbers_from (suc k) i list (drop at s)
     unfolding numbers_from
-    numbers_more g = rw (ne_eqb _ 0 more, ← here, g, drop-drop r.used at s)
+    numbers-stop e = rw (ne_eqb _ 0 more, ← here None e)
 
-    pub numbers-stop : r.good ≡ false → no_numbers ≡ numbers_from (suc k) i list (drop at s)
-    unfolding numbers_from
-    numbers-stop g = rw (ne_eqb _ 0 more, ← here, g)
+    module _ (n : Stepped) (e : Some n ≡ step_of (take (length s - at) (drop at s))) where
+      pub numbers_more : numbers_from k (i + 1) (set list i n.value) (drop (at + n.used) s) ≡ numbers_from (suc k) i list (drop at s)
+      unfolding numbers_from
+      numbers_more = rw (ne_eqb _ 0 more, ← here (Some n) e, drop-drop n.used at s)
 
-    pub numbers-within : at + r.used ≤ length s
-    numbers-within =
-        let u : (step_of (drop at s)).used ≤ length (drop at s) = step-used (drop at s) in
-        rw here (omega (arith, u, length-drop at s))
+      pub numbers-within : at + n.used ≤ length s
+      numbers-within =
+          let u : n.used ≤ length (drop at s) = subst (λ (x : Option Stepped). IfSome x (λ r. r.used ≤ length (drop at s))) (sym (here (Some n) e)) (step-used (drop at s)) in
+          omega (arith, u, length-drop at s)
 
 pub numbers-out : (k i : ℕ) (list s : List ℕ) → k ≡ 0 → no_numbers ≡ numbers_from k i list s
 unfolding numbers_from
@@ -52,13 +54,16 @@ numbers-out (suc k) i list s z = absurd (omega arith)
 numbers-most : (k i : ℕ) (list s : List ℕ) → (numbers_from k i list s).count ≤ i + k
 unfolding numbers_from
 numbers-most zero i list s = omega arith
-numbers-most (suc k) i list s =
-    go (eqb (length s) 0) (step_of s).good (numbers_from k (i + 1) (set list i (step_of s).value) (drop (step_of s).used s)) (numbers-most k (i + 1) (set list i (step_of s).value) (drop (step_of s).used s))
+numbers-most (suc k) i list s = pick-most (eqb (length s) 0) (step_of s)
   where
-    go : (a b : Bool) (n : Numbers) → n.count ≤ i + 1 + k → (pick a (record { good = true; count = i; list = list }) (pick b n no_numbers)).count ≤ i + suc k
-    go true b n h = omega arith
-    go false true n h = omega arith
-    go false false n h = omega arith
+    step-most : (x : Option Stepped) → (with_step x no_numbers (λ n. numbers_from k (i + 1) (set list i n.value) (drop n.used s))).count ≤ i + suc k
+    step-most (Some n) = omega (arith, numbers-most k (i + 1) (set list i n.value) (drop n.used s))
+    step-most None = omega arith
+
+    pick-most : (a : Bool) (x : Option Stepped)
+        → (pick a (record { good = true; count = i; list = list }) (with_step x no_numbers (λ n. numbers_from k (i + 1) (set list i n.value) (drop n.used s)))).count ≤ i + suc k
+    pick-most true x = omega arith
+    pick-most false x = step-most x
 
 pub numbers_fit : (s : List ℕ) → (numbers_in s).count ≤ 48
 unfolding numbers_in

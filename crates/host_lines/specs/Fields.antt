@@ -1,10 +1,9 @@
 -- What follows the word of a line: " LINK OCTETS OUT N N ..". Fields are HEX as in a script (01, "Script words"): "one space between", lower case. One without octets is
 -- empty, and its space stays.
-use Rattle.std.specs.Prelude.{◌≡◌, Bool, true, false, List, [], ◌∷◌, ℕ, zero, suc, ◌+◌, ◌/◌, ◌≤◌, eqb, leb, length, take, drop, set, replicate}
+use Rattle.std.specs.Prelude.{◌≡◌, Bool, true, false, List, [], ◌∷◌, ℕ, zero, suc, ◌+◌, ◌/◌, ◌≤◌, eqb, leb, length, take, drop, set, replicate, Result, Ok, Err}
 use Rattle.text.specs.Text.{pick, hex_good, octets_of, word_end}
-use Rattle.text.specs.Numbers.{step_of}
-use Rattle.text.specs.declared.Hex.{Hex}
-use Rattle.text.specs.declared.Hex.TheVariants as hex
+use Rattle.text.specs.Numbers.{step_of, with_step}
+use Rattle.text.specs.declared.HexFault.{HexFault}
 use Rattle.host_lines.specs.declared.fields.Field.{Field}
 use Rattle.host_lines.specs.declared.fields.Numbers.{Numbers}
 use Rattle.host_lines.specs.declared.fields.Asked.{Asked}
@@ -31,10 +30,9 @@ hex_step room (c ∷ cs) = pick (eqb c 32) (held_of room (take (word_end cs) cs)
 abbrev pub no_field : Field
 no_field = record { good = false; count = 0; used = 0 }
 
-unfoldable pub held_by : Hex → ℕ → Field
-held_by (hex.Octets n) used = record { good = true; count = n; used = used }
-held_by hex.Long used = no_field
-held_by hex.Garbled used = no_field
+unfoldable pub held_by : Result ℕ HexFault → ℕ → Field
+held_by (Ok n) used = record { good = true; count = n; used = used }
+held_by (Err e) used = no_field
 
 abbrev pub held_in : Field → List ℕ → Held
 held_in r o = record { good = r.good; octets = take r.count o; used = r.used }
@@ -53,7 +51,7 @@ unfoldable pub numbers_from : ℕ → ℕ → List ℕ → List ℕ → Numbers
 numbers_from zero i list s = no_numbers
 numbers_from (suc k) i list s =
     pick (eqb (length s) 0) (record { good = true; count = i; list = list })
-    (pick (step_of s).good (numbers_from k (i + 1) (set list i (step_of s).value) (drop (step_of s).used s)) no_numbers)
+    (with_step (step_of s) no_numbers (λ n. numbers_from k (i + 1) (set list i n.value) (drop n.used s)))
 
 unfoldable pub numbers_in : List ℕ → Numbers
 numbers_in s = numbers_from 48 0 (replicate 48 0) s

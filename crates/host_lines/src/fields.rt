@@ -3,7 +3,7 @@ ghost use Rattle.std.specs.Prelude.{◌≡◌, length};
 ghost use Rattle.host_lines.specs.Fields.{held_by, Holds, numbers_in, no_numbers, unasked, Asks};
 
 use text::digits::number_step;
-use text::{Hex, parse_hex, word_end};
+use text::{HexFault, parse_hex, word_end};
 
 // More than any PDU has, so that what follows the last one is seen to count for nothing.
 pub(crate) const NUMBERS: usize = 48;
@@ -33,21 +33,16 @@ pub(crate) struct Asked {
     pub out: usize,
 }
 
-fn field_of(h: Hex, used: usize) -> Field
+fn field_of(h: Result<usize, HexFault>, used: usize) -> Field
     ensures { result ≡ held_by h used }
 {
     match h {
-        Hex::Octets(n) => Field {
+        Ok(n) => Field {
             good: true,
             count: n,
             used,
         },
-        Hex::Long => Field {
-            good: false,
-            count: 0,
-            used: 0,
-        },
-        Hex::Garbled => Field {
+        Err(_) => Field {
             good: false,
             count: 0,
             used: 0,
@@ -104,10 +99,9 @@ fn numbers_in(s: &[u8]) -> Numbers
                 list,
             };
         }
-        let n = number_step(&s[at..]);
-        if !n.good {
+        let Some(n) = number_step(&s[at..]) else {
             return no_numbers();
-        }
+        };
         list[i] = n.value;
         at += n.used;
         i += 1;

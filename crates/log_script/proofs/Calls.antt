@@ -14,8 +14,7 @@ use Rattle.pdu.specs.UplinkTable.{ground_c}
 use Rattle.pdu.proofs.Promises.{ground-read}
 use Rattle.text.specs.Text.{both, digit_of, all_hex, hex_good, octets_of}
 use Rattle.text.specs.Numbers.{number_from, number_of}
-use Rattle.text.specs.declared.digits.Number.{Number}
-use Rattle.text.specs.declared.digits.Number.TheVariants.{Value, Unread}
+use Rattle.std.specs.Prelude.{Option, Some, None}
 use Rattle.text.proofs.Laws.{both_true}
 use Rattle.link.proofs.Laws.{pick-case}
 use Rattle.octets.specs.Octets.{Octets}
@@ -32,9 +31,9 @@ none-octets : Octets []
 none-octets k = lit< tt
 
 -- ---- what stands behind a word
-abbrev Small : Number → Type 0
-Small (Value n) = n < 4294967296
-Small Unread = Unit {0}
+abbrev Small : Option ℕ → Type 0
+Small (Some n) = n < 4294967296
+Small None = Unit {0}
 
 abbrev Fine : Field → Type 0
 Fine (holds o) = Octets o
@@ -68,10 +67,10 @@ number_small [] = tt
 number_small (c ∷ []) = digits-small (c ∷ []) 0 (lit< tt)
 number_small (c ∷ d ∷ cs) = pick-case Small (eqb c 48) (λ e. tt) (λ e. digits-small (c ∷ d ∷ cs) 0 (lit< tt))
 
-counted-fine : (x : Number) → Small x → Fine (counted x)
+counted-fine : (x : Option ℕ) → Small x → Fine (counted x)
 unfolding counted
-counted-fine (Value n) h = h
-counted-fine Unread h = tt
+counted-fine (Some n) h = h
+counted-fine None h = tt
 
 hex-fine : (tail : List ℕ) → Fine (hex_field tail)
 unfolding hex_field hex_good

@@ -19,9 +19,9 @@ use Rattle.script.specs.Replies.{Reply, play_reply, set_reply}
 use Rattle.script.specs.Replies as script
 use Rattle.bench_line.specs.Lines.{parsed_line}
 use Rattle.bench_line.specs.Settings.{settings_in}
-use Rattle.bench_line.specs.declared.settings.Settings.{Settings}
+use Rattle.std.specs.Prelude.{Option, Some, None, IfSome}
 use Rattle.bench.specs.declared.reply.Setup.{Setup}
-use Rattle.bench.specs.Replies.{ground_bench, open_reply, settings_reply, line_reply}
+use Rattle.bench.specs.Replies.{ground_bench, open_reply, listed_reply, settings_reply, line_reply}
 use Rattle.log_blocks.specs.declared.Appended.{Appended}
 use Rattle.log_blocks.specs.declared.Appended.TheVariants.{Wrote, Full, Ended, Refused}
 use Rattle.log_blocks.specs.Block.{BLOCKS}
@@ -101,14 +101,12 @@ either b true j k x y p q = p
 either b false j k x y p q = q
 
 set-unset : (b : Setup) (line : List ℕ) → Unset b (set_kept line) (set_reply ground_bench b line)
-unfolding set_kept settings_kept set_reply settings_reply open_reply
-set-unset b line =
-    let s = settings_in (drop (word_end line) line) in
-    either b (is_set line) _ _ _ _
-    (either b s.good _ _ _ _
-    (either b (eqb (opened s.list).refusal 0) _ _ _ _ (λ e. absurd (omega (arith, ap (λ (k : List Rec). length k) e))) (λ e. refl))
-    (λ e. refl))
-    (λ e. refl)
+unfolding set_kept settings_kept set_reply settings_reply listed_reply open_reply
+set-unset b line = either b (is_set line) _ _ _ _ (go (settings_in (drop (word_end line) line))) (λ e. refl)
+  where
+    go : (x : Option (List ℕ)) → Unset b (settings_kept x) (listed_reply b x)
+    go (Some s) = either b (eqb (opened s).refusal 0) _ _ _ _ (λ e. absurd (omega (arith, ap (λ (k : List Rec). length k) e))) (λ e. refl)
+    go None = λ e. refl
 
 unset : (b : Setup) (line : List ℕ) → b.ready ≡ false → Unset b (line_kept b line) (line_reply b line)
 unfolding line_kept script.line_reply
@@ -129,14 +127,14 @@ unfolding opened
 good-settings s =
     pick-case (λ (x : Opened). x.refusal ≡ 0 → T (below timers (setting_ok s))) (below timers (setting_ok s)) {x = record { refusal = 0; link = fresh s }} (λ e f. eq-T _ e) (λ e f. absurd (omega (arith, f)))
 
-module _ (b : Setup) (block line : List ℕ) (lines : List (List ℕ)) (s : Settings) (is : settings_in (drop (word_end line) line) ≡ s) where
-  pub script-plays : length block ≡ 512 → b.ready ≡ false → is_set line ≡ true → s.good ≡ true → (opened s.list).refusal ≡ 0
-      → length (pack form_one (records_of s.list (calls_in lines))) ≤ BLOCKS
-      → play_log step_of form_one blank (log_of (lines_on (new_desk b block) (line ∷ lines)).log) ≡ got (answers_of s.list (calls_in lines))
-  script-plays long new found good opens few =
-      let ten : length s.list ≡ timers = ap (λ (x : Settings). length x.list) (sym is) ∙ ten-settings (drop (word_end line) line) in
-      let fine : played.Settings s.list = record { ten = ten; fine = good-settings s.list opens } in
+module _ (b : Setup) (block line : List ℕ) (lines : List (List ℕ)) (s : List ℕ) (is : settings_in (drop (word_end line) line) ≡ Some s) where
+  pub script-plays : length block ≡ 512 → b.ready ≡ false → is_set line ≡ true → (opened s).refusal ≡ 0
+      → length (pack form_one (records_of s (calls_in lines))) ≤ BLOCKS
+      → play_log step_of form_one blank (log_of (lines_on (new_desk b block) (line ∷ lines)).log) ≡ got (answers_of s (calls_in lines))
+  script-plays long new found opens few =
+      let ten : length s ≡ timers = subst (λ (x : Option (List ℕ)). IfSome x (λ list. length list ≡ timers)) is (ten-settings (drop (word_end line) line)) in
+      let fine : played.Settings s = record { ten = ten; fine = good-settings s opens } in
       let start = recorder (tape 0 0) block [] in
       ap (λ (l : Recorder). play_log step_of form_one blank (log_of l))
-      (script-log b block (line ∷ lines) ∙ ap (note_all start) (script-kept b line lines s is new found good opens))
-      ∙ played.recorder-plays s.list fine (calls_in lines) (calls-able lines) few block long
+      (script-log b block (line ∷ lines) ∙ ap (note_all start) (script-kept b line lines s is new found opens))
+      ∙ played.recorder-plays s fine (calls_in lines) (calls-able lines) few block long

@@ -1,6 +1,6 @@
 -- What is kept of a script (02, L6): "Record every accepted call of one link". Assumes nothing.
 use Prim.Native.Nat.{ℕ, zero, suc, ◌+◌, ◌≤◌}
-use mathlib.Core.Path.{◌≡◌, refl, sym, ap, ◌∙◌}
+use mathlib.Core.Path.{◌≡◌, refl, sym, ap, subst, ◌∙◌}
 use mathlib.Core.Bool.{Bool, true, false}
 use mathlib.Core.List.{List, [], ◌∷◌, ◌++◌}
 use native.Mathlib.Omega.{arith}
@@ -11,9 +11,10 @@ use lib.Seq.{take_all}
 use Rattle.text.specs.Letters.{ascii}
 use Rattle.text.specs.Text.{pick, same_text, word_end}
 use Rattle.text.specs.Words.{refused_text}
-use Rattle.text.specs.Numbers.{step_of}
+use Rattle.text.specs.Numbers.{step_of, with_step}
 use Rattle.link.specs.Tests as link
 use Rattle.link.specs.Names.{timers}
+use Rattle.link.proofs.Laws.{pick-case}
 use Rattle.octets.specs.Octets.{quads}
 use Rattle.octets.specs.laws.Numbers.{length-quads}
 use Rattle.ground_answer.specs.declared.record.Link.{Link}
@@ -29,10 +30,11 @@ use Rattle.script.specs.Replies.{Reply, refused_reply, play_reply, set_reply}
 use Rattle.script.specs.Replies as script
 use Rattle.bench_line.specs.AnswerText.{answer_text}
 use Rattle.bench_line.specs.Lines.{parsed_line}
-use Rattle.bench_line.specs.Settings.{no_settings, settings_from, settings_in}
-use Rattle.bench_line.specs.declared.settings.Settings.{Settings}
+use Rattle.bench_line.specs.Settings.{settings_from, settings_in}
+use Rattle.std.specs.Prelude.{Option, Some, None, IfSome}
+use Rattle.text.specs.declared.digits.Stepped.{Stepped}
 use Rattle.bench.specs.declared.reply.Setup.{Setup}
-use Rattle.bench.specs.Replies.{ground_bench, ready_setup, answer_reply, open_reply, settings_reply, line_reply}
+use Rattle.bench.specs.Replies.{ground_bench, ready_setup, answer_reply, open_reply, listed_reply, settings_reply, line_reply}
 use Rattle.log_blocks.specs.Record.{Rec, noted}
 use Rattle.log_play.specs.Records.{record_of, settings_record, records_from, records_of}
 use Rattle.log_script.specs.Heard.{call_kept, settings_kept, set_kept, line_kept}
@@ -64,10 +66,12 @@ call-agrees b (makes c s) = go (eqb (answered b.link c s).said.refusal 0) _ _ _
 call-agrees b unread = refl
 
 set_agrees : (b : Setup) (tail : List ℕ) → Agrees (settings_kept (settings_in tail)) (settings_reply b tail)
-unfolding settings_kept settings_reply open_reply
-set_agrees b tail =
-    let s = settings_in tail in
-    either s.good _ _ _ _ (either (eqb (opened s.list).refusal 0) _ _ _ _ refl (refused-agrees b _)) (refused-agrees b _)
+unfolding settings_kept settings_reply listed_reply open_reply
+set_agrees b tail = go (settings_in tail)
+  where
+    go : (x : Option (List ℕ)) → Agrees (settings_kept x) (listed_reply b x)
+    go (Some s) = either (eqb (opened s).refusal 0) _ _ _ _ refl (refused-agrees b _)
+    go None = refused-agrees b _
 
 pub kept-ok : (b : Setup) (line : List ℕ) → length (line_kept b line) ≡ pick (is_ok (line_reply b line).text) 1 0
 unfolding line_kept set_kept script.line_reply set_reply
@@ -97,18 +101,19 @@ calls-kept (line ∷ lines) l = by (parsed_line line) (calls-kept lines)
             ap (λ (x : Answer). script_kept (ready_setup x.link) lines) (refused-still l m e) ∙ ih l
 
 -- ---- and from its settings on
-settings-long : (k i : ℕ) (list s : List ℕ) → length list ≡ timers → length (settings_from k i list s).list ≡ timers
-unfolding settings_from
-settings-long zero i list s h = h
-settings-long (suc k) i list s h =
-    go (step_of s).good (settings_from k (i + 1) (set list i (step_of s).value) (drop (step_of s).used s))
-    (settings-long k (i + 1) (set list i (step_of s).value) (drop (step_of s).used s) (length-set list i (step_of s).value ∙ h))
-  where
-    go : (q : Bool) (x : Settings) → length x.list ≡ timers → length (pick q x no_settings).list ≡ timers
-    go true x p = p
-    go false x p = length-replicate {A = ℕ} timers 0
+abbrev Ten : Option (List ℕ) → Type 0
+Ten x = IfSome x (λ s. length s ≡ timers)
 
-pub ten-settings : (s : List ℕ) → length (settings_in s).list ≡ timers
+settings-long : (k i : ℕ) (list s : List ℕ) → length list ≡ timers → Ten (settings_from k i list s)
+unfolding settings_from
+settings-long zero i list s h = pick-case Ten (eqb (length s) 0) (λ e. h) (λ e. tt)
+settings-long (suc k) i list s h = go (step_of s)
+  where
+    go : (x : Option Stepped) → Ten (with_step x None (λ n. settings_from k (i + 1) (set list i n.value) (drop n.used s)))
+    go (Some n) = settings-long k (i + 1) (set list i n.value) (drop n.used s) (length-set list i n.value ∙ h)
+    go None = tt
+
+pub ten-settings : (s : List ℕ) → IfSome (settings_in s) (λ list. length list ≡ timers)
 unfolding settings_in
 ten-settings s = settings-long timers 0 _ s (length-replicate {A = ℕ} timers 0)
 
@@ -119,19 +124,18 @@ short-settings s h =
     ap (λ (x : List ℕ). record { kind = 0; seconds = 0; octets = x }) (take_all 129 (quads s) n)
 
 -- "the settings are the first record": a line with good settings, and what follows it
-module _ (b : Setup) (line : List ℕ) (lines : List (List ℕ)) (s : Settings) (is : settings_in (drop (word_end line) line) ≡ s) where
-  pub script-kept : b.ready ≡ false → is_set line ≡ true → s.good ≡ true → (opened s.list).refusal ≡ 0
-      → script_kept b (line ∷ lines) ≡ records_of s.list (calls_in lines)
-  unfolding line_kept set_kept settings_kept script.line_reply set_reply settings_reply open_reply
-  script-kept new found good opens =
-      let ten : length s.list ≡ timers = ap (λ (x : Settings). length x.list) (sym is) ∙ ten-settings (drop (word_end line) line) in
+module _ (b : Setup) (line : List ℕ) (lines : List (List ℕ)) (s : List ℕ) (is : settings_in (drop (word_end line) line) ≡ Some s) where
+  pub script-kept : b.ready ≡ false → is_set line ≡ true → (opened s).refusal ≡ 0 → script_kept b (line ∷ lines) ≡ records_of s (calls_in lines)
+  unfolding line_kept set_kept settings_kept script.line_reply set_reply settings_reply listed_reply open_reply
+  script-kept new found opens =
+      let ten : length s ≡ timers = subst (λ (x : Option (List ℕ)). IfSome x (λ list. length list ≡ timers)) is (ten-settings (drop (word_end line) line)) in
       ap (λ (rs : List Rec). noted_all rs ++ script_kept (line_reply b line).box lines) first
-      ∙ ap (λ (x : Setup). noted (settings_record s.list) ∷ script_kept x lines) box
-      ∙ ap (λ (r : Rec). r ∷ script_kept (ready_setup (fresh s.list)) lines) (short-settings s.list ten)
-      ∙ ap (λ (rs : List Rec). settings_record s.list ∷ rs) (calls-kept lines (fresh s.list))
+      ∙ ap (λ (x : Setup). noted (settings_record s) ∷ script_kept x lines) box
+      ∙ ap (λ (r : Rec). r ∷ script_kept (ready_setup (fresh s)) lines) (short-settings s ten)
+      ∙ ap (λ (rs : List Rec). settings_record s ∷ rs) (calls-kept lines (fresh s))
     where
-      first : line_kept b line ≡ settings_record s.list ∷ []
-      first = rw (new, found, is, good, eq-eqb _ 0 opens)
+      first : line_kept b line ≡ settings_record s ∷ []
+      first = rw (new, found, is, eq-eqb _ 0 opens)
 
-      box : (line_reply b line).box ≡ ready_setup (fresh s.list)
-      box = rw (new, found, is, good, eq-eqb _ 0 opens) (ap ready_setup (opened-fresh s.list opens))
+      box : (line_reply b line).box ≡ ready_setup (fresh s)
+      box = rw (new, found, is, eq-eqb _ 0 opens) (ap ready_setup (opened-fresh s opens))

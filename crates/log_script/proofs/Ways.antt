@@ -7,6 +7,7 @@ use native.Mathlib.Omega.{arith}
 use borrow.Author.Tests.{eq-eqb, ne_eqb, le-leb, lt-leb}
 use lib.Dec.{eqb}
 use lib.ListN.{length, take, drop}
+use Rattle.std.specs.Prelude.{Some, None}
 use Rattle.text.specs.Text.{pick, word_end}
 use Rattle.text.proofs.Laws.{part-all, take_min}
 use Rattle.link.specs.Tests.{below}
@@ -24,18 +25,16 @@ use Rattle.ground_answer.specs.Fresh.{opened}
 use Rattle.ground.specs.declared.call.Call.{Call}
 use Rattle.ground.specs.declared.call.Call.TheVariants.{Request}
 use Rattle.ground.specs.Runs.{answered}
-use Rattle.script.specs.declared.line.SetPart.{SetPart}
-use Rattle.script.specs.Lines.{Parsed, unread, makes, SetPartOf}
+use Rattle.script.specs.Lines.{Parsed, unread, makes, is_set, SetFrom}
 use Rattle.script.specs.Replies.{Reply, play_reply}
 use Rattle.script.proofs.Heard.{with-room}
 use Rattle.script.proofs.Ways.{line-play, line_set, line_other}
 use Rattle.bench_line.specs.declared.line.LineCall.{LineCall}
 use Rattle.bench_line.specs.declared.line.LineCall.TheVariants.{Unread, Makes}
-use Rattle.bench_line.specs.declared.settings.Settings.{Settings}
 use Rattle.bench_line.specs.Lines.{ground_script, parsed_in, parsed_line, parsed_into}
 use Rattle.bench_line.specs.Settings.{settings_in}
 use Rattle.bench.specs.declared.reply.Setup.{Setup}
-use Rattle.bench.specs.Replies.{ground_bench, ready_setup, answer_reply, open_reply, settings_reply, line_reply}
+use Rattle.bench.specs.Replies.{ground_bench, ready_setup, answer_reply, open_reply, listed_reply, settings_reply, line_reply}
 use Rattle.log_blocks.specs.Record.{Rec, rec}
 use Rattle.log_play.specs.Records.{record_of, settings_record}
 use Rattle.log_play.proofs.Recorded.{may_write}
@@ -97,32 +96,31 @@ opened-fresh s =
 abbrev pub set_heard : Setup → List ℕ → Heard
 set_heard b tail = heard (settings_reply b tail).box (settings_kept (settings_in tail))
 
-module _ (b : Setup) (tail : List ℕ) (s : Settings) (is : s ≡ settings_in tail) where
-  pub bad-heard : s.good ≡ false → set_heard b tail ≡ heard b []
-  unfolding settings_reply settings_kept
-  bad-heard e = rw (← is, e)
+pub bad-heard : (b : Setup) (tail : List ℕ) → None ≡ settings_in tail → set_heard b tail ≡ heard b []
+unfolding settings_reply listed_reply settings_kept
+bad-heard b tail is = rw (← is)
 
-  module _ (good : s.good ≡ true) (o : Opened) (opens : o ≡ opened s.list) where
-    pub unopened-heard : (o.refusal ≡ 0 → ⊥) → set_heard b tail ≡ heard b []
-    unfolding settings_reply open_reply settings_kept
-    unopened-heard z = rw (← is, good, ← opens, ne_eqb _ 0 z)
+module _ (b : Setup) (tail s : List ℕ) (is : Some s ≡ settings_in tail) (o : Opened) (opens : o ≡ opened s) where
+  pub unopened-heard : (o.refusal ≡ 0 → ⊥) → set_heard b tail ≡ heard b []
+  unfolding settings_reply listed_reply open_reply settings_kept
+  unopened-heard z = rw (← is, ← opens, ne_eqb _ 0 z)
 
-    module _ (z : o.refusal ≡ 0) where
-      opened-heard : set_heard b tail ≡ heard (ready_setup o.link) (settings_record s.list ∷ [])
-      unfolding settings_reply open_reply settings_kept
-      opened-heard = rw (← is, good, ← opens, eq-eqb _ 0 z)
+  module _ (z : o.refusal ≡ 0) where
+    opened-heard : set_heard b tail ≡ heard (ready_setup o.link) (settings_record s ∷ [])
+    unfolding settings_reply listed_reply open_reply settings_kept
+    opened-heard = rw (← is, ← opens, eq-eqb _ 0 z)
 
-      same-settings : o.link.setting ≡ s.list
-      unfolding fresh
-      same-settings =
-          ap (λ (x : Opened). x.link.setting) opens
-          ∙ ap (λ (x : Link). x.setting) (opened-fresh s.list (ap (λ (x : Opened). x.refusal) (sym opens) ∙ z))
+    same-settings : o.link.setting ≡ s
+    unfolding fresh
+    same-settings =
+        ap (λ (x : Opened). x.link.setting) opens
+        ∙ ap (λ (x : Link). x.setting) (opened-fresh s (ap (λ (x : Opened). x.refusal) (sym opens) ∙ z))
 
-      pub opened-hears : (len : ℕ) (p : List ℕ) → take len p ≡ quads o.link.setting → Hears (set_heard b tail) (kept (ready_setup o.link) 0 0 len) p
-      unfolding settings_record
-      opened-hears len p e =
-          hears-as (kept (ready_setup o.link) 0 0 len) p opened-heard
-          (record { box_is = refl; record_is = ap (λ (x : List ℕ). rec 0 0 x ∷ []) (e ∙ ap quads same-settings) })
+    pub opened-hears : (len : ℕ) (p : List ℕ) → take len p ≡ quads o.link.setting → Hears (set_heard b tail) (kept (ready_setup o.link) 0 0 len) p
+    unfolding settings_record
+    opened-hears len p e =
+        hears-as (kept (ready_setup o.link) 0 0 len) p opened-heard
+        (record { box_is = refl; record_is = ap (λ (x : List ℕ). rec 0 0 x ∷ []) (e ∙ ap quads same-settings) })
 
 -- ---- a whole line
 pub line-short : (b : Setup) (line : List ℕ) (room : ℕ) → room < 2048 → heard_into room b line ≡ heard b []
@@ -146,17 +144,17 @@ module _ (b : Setup) (line : List ℕ) (room : ℕ) (big : 2048 ≤ room) where
       both-are (play_reply ground_bench b (parsed_line line)) (call_kept b.link (parsed_line line)) (line-play ground_bench b line e)
       (ap (λ (x : Bool). pick x (call_kept b.link (parsed_line line)) (set_kept line)) e)
 
-  module _ (new : b.ready ≡ false) (s : SetPart) (is : SetPartOf line s) where
-    by-set : (f : Bool) → s.found ≡ f → line_kept b line ≡ pick f (settings_kept (settings_in (drop (word_end line) line))) []
+  module _ (new : b.ready ≡ false) where
+    by-set : (f : Bool) → is_set line ≡ f → line_kept b line ≡ pick f (settings_kept (settings_in (drop (word_end line) line))) []
     unfolding line_kept set_kept
     by-set f e =
         ap (λ (x : Bool). pick x (call_kept b.link (parsed_line line)) (set_kept line)) new
-        ∙ ap (λ (x : Bool). pick x (settings_kept (settings_in (drop (word_end line) line))) []) (sym is.found_is ∙ e)
+        ∙ ap (λ (x : Bool). pick x (settings_kept (settings_in (drop (word_end line) line))) []) e
 
-    pub set-heard : s.found ≡ true → heard_into room b line ≡ set_heard b (take (length line - s.from) (drop s.from line))
-    set-heard f =
-        let part = ap (λ (k : ℕ). drop k line) (sym is.from_is) ∙ sym (part-all line s.from (length line) refl) in
-        both-are _ _ (line_set ground_bench b line new s is f) (by-set true f ∙ ap (λ (x : List ℕ). settings_kept (settings_in x)) part)
+    pub set-heard : (from : ℕ) → SetFrom line from → heard_into room b line ≡ set_heard b (take (length line - from) (drop from line))
+    set-heard from is =
+        let part = ap (λ (k : ℕ). drop k line) (sym is.from_is) ∙ sym (part-all line from (length line) refl) in
+        both-are _ _ (line_set ground_bench b line new from is) (by-set true is.found_is ∙ ap (λ (x : List ℕ). settings_kept (settings_in x)) part)
 
-    pub other-heard : s.found ≡ false → heard_into room b line ≡ heard b []
-    other-heard f = both-are _ _ (line_other ground_bench b line new s is f) (by-set false f)
+    pub other-heard : is_set line ≡ false → heard_into room b line ≡ heard b []
+    other-heard f = both-are _ _ (line_other ground_bench b line new f) (by-set false f)

@@ -1,5 +1,5 @@
 -- What a line of a script leaves with the recorder (02, L6): "Record every accepted call of one link".
-use Rattle.std.specs.Prelude.{◌≡◌, List, [], ◌∷◌, ℕ, eqb, leb, take, drop}
+use Rattle.std.specs.Prelude.{◌≡◌, List, [], ◌∷◌, ℕ, eqb, leb, take, drop, Option, Some, None}
 use Rattle.text.specs.Text.{pick, word_end}
 use Rattle.ground_answer.specs.declared.record.Link.{Link}
 use Rattle.ground_answer.specs.Fresh.{opened}
@@ -8,7 +8,6 @@ use Rattle.ground.specs.Runs.{answered}
 use Rattle.script.specs.Lines.{Parsed, unread, makes, is_set}
 use Rattle.bench_line.specs.Lines.{parsed_line}
 use Rattle.bench_line.specs.Settings.{settings_in}
-use Rattle.bench_line.specs.declared.settings.Settings.{Settings}
 use Rattle.bench.specs.declared.reply.Setup.{Setup}
 use Rattle.bench.specs.Replies.{line_reply}
 use Rattle.log_blocks.specs.Record.{Rec, rec}
@@ -21,8 +20,9 @@ call_kept l (makes c s) = pick (eqb (answered l c s).said.refusal 0) (record_of 
 call_kept l unread = []
 
 -- "the settings are the first record"
-unfoldable pub settings_kept : Settings → List Rec
-settings_kept s = pick s.good (pick (eqb (opened s.list).refusal 0) (settings_record s.list ∷ []) []) []
+unfoldable pub settings_kept : Option (List ℕ) → List Rec
+settings_kept (Some s) = pick (eqb (opened s).refusal 0) (settings_record s ∷ []) []
+settings_kept None = []
 
 unfoldable pub set_kept : List ℕ → List Rec
 set_kept line = pick (is_set line) (settings_kept (settings_in (drop (word_end line) line))) []

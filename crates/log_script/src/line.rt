@@ -168,12 +168,9 @@ fn hear_settings(b: Setup, tail: &[u8], octets: &mut [u8]) -> Entry
     requires { 2048 ≤ length octets.old }
     ensures { Hears (heard (settings_reply b tail.now).box (settings_kept (settings_in tail.now))) result octets.new }
 {
-    let set = parse_settings(tail);
-    let good = set.good;
-    if !good {
+    let Some(list) = parse_settings(tail) else {
         return nothing(b);
-    }
-    let list = set.list;
+    };
     let o = open(list);
     if o.refusal != 0 {
         return nothing(b);
@@ -199,10 +196,8 @@ pub fn hear_line(b: Setup, line: &[u8], octets: &mut [u8]) -> Entry
     if b.ready {
         return hear_call(b, line, octets);
     }
-    let s = set_part(line);
-    let from = s.from;
-    if s.found {
-        return hear_settings(b, &line[from..], octets);
+    match set_part(line) {
+        Some(from) => hear_settings(b, &line[from..], octets),
+        None => nothing(b),
     }
-    nothing(b)
 }

@@ -7,7 +7,8 @@ use native.Mathlib.Omega.{arith}
 use borrow.Author.Tests.{le-leb}
 use lib.ListN.{length}
 use Rattle.text.specs.Text.{pick, hex_good, octets_of, hex_of, hex_into, HexRead}
-use Rattle.text.specs.declared.Hex.{Hex}
+use Rattle.std.specs.Prelude.{Result}
+use Rattle.text.specs.declared.HexFault.{HexFault}
 use Rattle.text.proofs.Trip.{read-front}
 use Rattle.pdu_words.specs.LineText.{refused_line, pdu_text, spelled_text, heard_text}
 use Rattle.pdu_words.specs.declared.lines.Task.{Task}
@@ -22,6 +23,6 @@ heard t word s o h = go (hex_good s) refl
     go false e = rw e
 
 -- 2,048 octets have room for those of any line
-pub spelled-heard : {s o after : List ℕ} {x : Hex} (t : Task) (word : List ℕ) → HexRead o s x after → length s ≤ 4096 → length o ≡ 2048
+pub spelled-heard : {s o after : List ℕ} {x : Result ℕ HexFault} (t : Task) (word : List ℕ) → HexRead o s x after → length s ≤ 4096 → length o ≡ 2048
     → heard_text t word x after ≡ spelled_text t word s
 spelled-heard {s} {o} t word r fits room = rw (r.found_is, r.buffer_is) (heard t word s o (omega arith))

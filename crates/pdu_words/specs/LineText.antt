@@ -1,11 +1,11 @@
 -- The answer to a line `air HEX` or `ground HEX`, "one space between; HEX is a PDU in lower case, or left out when empty" (01, "Script words"): the octets of its PDU
 -- written back from the value read, or the PDU in words for a person. Any other line is 17, and so is one over 4,096 octets.
-use Rattle.std.specs.Prelude.{List, [], ◌∷◌, ◌++◌, ℕ, eqb, ltb, length, take, drop, replicate}
+use Rattle.std.specs.Prelude.{List, [], ◌∷◌, ◌++◌, ℕ, eqb, ltb, length, take, drop, replicate, Result, Ok, Err}
 use Rattle.refusals.specs.Refusals.{SCRIPT-LINE}
 use Rattle.text.specs.Letters.{ascii}
 use Rattle.text.specs.Text.{pick, hex_good, octets_of, hex_text, word_end}
 use Rattle.text.specs.Words.{word_at, found_from, refused_text}
-use Rattle.text.specs.declared.Hex as hex
+use Rattle.text.specs.declared.HexFault.{HexFault}
 use Rattle.per.specs.Codec.{Codec}
 use Rattle.per.specs.Pdu.{Answer, got, refused, read_pdu}
 use Rattle.per.specs.Writing.{write_pdu}
@@ -90,7 +90,6 @@ answers_of t [] = []
 answers_of t (l ∷ ls) = answer_text t l ++ answers_of t ls
 
 -- what the code says of the octets that it read into a buffer
-unfoldable pub heard_text : Task → List ℕ → hex.Hex → List ℕ → List ℕ
-heard_text t word (hex.TheVariants.Octets n) o = pdu_text t word (take n o)
-heard_text t word hex.TheVariants.Long o = refused_line t SCRIPT-LINE
-heard_text t word hex.TheVariants.Garbled o = refused_line t SCRIPT-LINE
+unfoldable pub heard_text : Task → List ℕ → Result ℕ HexFault → List ℕ → List ℕ
+heard_text t word (Ok n) o = pdu_text t word (take n o)
+heard_text t word (Err e) o = refused_line t SCRIPT-LINE

@@ -14,7 +14,6 @@ use pdu::downlink::{Air, AirPdu};
 use pdu::uplink::Ground;
 use pdu_parts::lists::Listed;
 use refusals::{Refusal, SCRIPT_LINE};
-use text::Hex;
 use text::words::{find, put_refused};
 use text_lines::input::shown;
 
@@ -97,14 +96,12 @@ fn say_spelled(task: Task, out: &mut Page, at: usize, word: &[u8], s: &[u8]) -> 
     ensures { Writes (page out.old at) (spelled_text task word.now s.now) (page out.new result) }
 {
     let mut octets = [0u8; 2048];
-    let h = text::parse_hex(s, &mut octets);
-    match h {
-        Hex::Octets(n) => {
+    match text::parse_hex(s, &mut octets) {
+        Ok(n) => {
             let m = shown(n, &octets);
             say_pdu(task, out, at, word, &octets[..m])
         }
-        Hex::Long => say_refused(task, out, at, SCRIPT_LINE),
-        Hex::Garbled => say_refused(task, out, at, SCRIPT_LINE),
+        Err(_) => say_refused(task, out, at, SCRIPT_LINE),
     }
 }
 

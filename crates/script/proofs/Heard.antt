@@ -9,8 +9,8 @@ use lib.Dec.{leb}
 use lib.ListN.{length, get_or, take, drop, length-drop}
 use Rattle.text.specs.Text.{pick, hex_good, hex_of, hex_into, octets_of, word_end}
 use Rattle.text.specs.Words.{found_from}
-use Rattle.text.specs.declared.Hex.{Hex}
-use Rattle.text.specs.declared.Hex.TheVariants.{Octets, Long, Garbled}
+use Rattle.std.specs.Prelude.{Result, Ok, Err}
+use Rattle.text.specs.declared.HexFault.{HexFault}
 use Rattle.text.proofs.Laws.{part-all}
 use Rattle.text.proofs.Trip.{read-front}
 use Rattle.script.specs.Fields.{Field, garbled, holds, hex_field, field_of, held_in}
@@ -18,10 +18,9 @@ use Rattle.script.specs.Lines.{unread, Script, Heard, heard, heard_line, heard_i
 use Rattle.script.specs.declared.line.Heard as code
 
 -- what reading hexadecimal text found, with the buffer in which the octets stand
-unfoldable pub hex_in : Hex → List ℕ → Field
-hex_in (Octets n) o = holds (take n o)
-hex_in Long o = garbled
-hex_in Garbled o = garbled
+unfoldable pub hex_in : Result ℕ HexFault → List ℕ → Field
+hex_in (Ok n) o = holds (take n o)
+hex_in (Err e) o = garbled
 
 -- what was read into a buffer that is long enough
 held : (s o : List ℕ) → length s / 2 ≤ length o → hex_in (hex_of (length o) s) (hex_into o s) ≡ pick (hex_good s) (holds (octets_of s)) garbled

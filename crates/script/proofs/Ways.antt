@@ -6,8 +6,7 @@ use Prim.Native.Nat.{ℕ, ◌-◌}
 use lib.ListN.{length, take, drop}
 use Rattle.text.specs.Text.{pick}
 use Rattle.text.proofs.Laws.{part-all}
-use Rattle.script.specs.declared.line.SetPart.{SetPart}
-use Rattle.script.specs.Lines.{parsed_line, SetPartOf}
+use Rattle.script.specs.Lines.{parsed_line, is_set, SetFrom}
 use Rattle.script.specs.Replies.{Bench, refused_reply, play_reply, set_reply, line_reply}
 
 pick-by : {X : Type 0} (f g : Bool) (x y : X) → f ≡ g → pick f x y ≡ pick g x y
@@ -20,13 +19,13 @@ module _ {Box Call : Type 0} (m : Bench Box Call) (b : Box) (line : List ℕ) wh
   line-play r = pick-by (m.ready b) true _ _ r
 
   -- a box that has none: the line has them, or it does not
-  module _ (new : m.ready b ≡ false) (s : SetPart) (is : SetPartOf line s) where
-    pub line_set : s.found ≡ true → line_reply m b line ≡ m.sets b (take (length line - s.from) (drop s.from line))
+  module _ (new : m.ready b ≡ false) where
+    pub line_set : (from : ℕ) → SetFrom line from → line_reply m b line ≡ m.sets b (take (length line - from) (drop from line))
     unfolding line_reply set_reply
-    line_set f =
-        pick-by (m.ready b) false _ _ new ∙ pick-by _ true _ _ (sym is.found_is ∙ f)
-        ∙ ap (λ (k : ℕ). m.sets b (drop k line)) (sym is.from_is) ∙ ap (m.sets b) (sym (part-all line s.from (length line) refl))
+    line_set from is =
+        pick-by (m.ready b) false _ _ new ∙ pick-by _ true _ _ is.found_is
+        ∙ ap (λ (k : ℕ). m.sets b (drop k line)) (sym is.from_is) ∙ ap (m.sets b) (sym (part-all line from (length line) refl))
 
-    pub line_other : s.found ≡ false → line_reply m b line ≡ refused_reply b 17
+    pub line_other : is_set line ≡ false → line_reply m b line ≡ refused_reply b 17
     unfolding line_reply set_reply
-    line_other f = pick-by (m.ready b) false _ _ new ∙ pick-by _ false _ _ (sym is.found_is ∙ f)
+    line_other f = pick-by (m.ready b) false _ _ new ∙ pick-by _ false _ _ f

@@ -3,8 +3,7 @@
 use Rattle.std.specs.Prelude.{◌≡◌, List, [], ℕ, eqb, length, take, drop}
 use Rattle.text.specs.Text.{pick, hex_good, octets_of}
 use Rattle.text.specs.Numbers.{number_of}
-use Rattle.text.specs.declared.digits.Number.{Number}
-use Rattle.text.specs.declared.digits.Number.TheVariants.{Value, Unread}
+use Rattle.std.specs.Prelude.{Option, Some, None}
 use Rattle.script.specs.declared.line.Held as held
 
 -- what may follow a word: the word is not taken, it stands alone, HEX, N
@@ -37,12 +36,12 @@ hex_field tail =
     (pick (eqb (length tail) 1) garbled (pick (hex_good (drop 1 tail)) (holds (octets_of (drop 1 tail))) garbled))
 
 -- N
-unfoldable pub number_after : List ℕ → Number
-number_after tail = pick (eqb (length tail) 0) Unread (number_of (drop 1 tail))
+unfoldable pub number_after : List ℕ → Option ℕ
+number_after tail = pick (eqb (length tail) 0) None (number_of (drop 1 tail))
 
-unfoldable pub counted : Number → Field
-counted (Value n) = counts n
-counted Unread = garbled
+unfoldable pub counted : Option ℕ → Field
+counted (Some n) = counts n
+counted None = garbled
 
 -- what stands behind a word, read as what may follow it
 unfoldable pub field_of : ℕ → List ℕ → Field

@@ -1,12 +1,11 @@
 -- A line of a script (01, "Script words"): "One call a line". Over the words of any side and the calls that they make.
-use Rattle.std.specs.Prelude.{◌≡◌, Bool, false, List, [], ◌∷◌, ℕ, ◌≤◌, leb, ltb, length, get_or, take, drop}
+use Rattle.std.specs.Prelude.{◌≡◌, Bool, true, false, List, [], ◌∷◌, ℕ, ◌≤◌, leb, ltb, length, get_or, take, drop, Option, Some, None}
 use Prim.Native.String.{String}
 use Rattle.text.specs.Letters.{ascii}
 use Rattle.text.specs.Text.{pick, same_text, word_end}
 use Rattle.text.specs.Words.{found_from}
 use Rattle.script.specs.Fields.{NEVER, Field, garbled, holds, counts, field_of, held_in}
 use Rattle.script.specs.declared.line.Heard as code
-use Rattle.script.specs.declared.line.SetPart.{SetPart}
 
 -- a call with the octets beside it; or nothing that is readable, which is 17
 pub data Parsed (Call : Type 0) : Type 0 where
@@ -75,8 +74,12 @@ module _ {Call : Type 0} (s : Script Call) where
 unfoldable pub is_set : List ℕ → Bool
 is_set line = pick (ltb 4096 (length line)) false (same_text (take (word_end line) line) (ascii "set"))
 
--- what `set_part` gives: whether the line is one, and where its word ends
-pub record SetPartOf (line : List ℕ) (r : SetPart) : Type 0 where
-  pub found_is : r.found ≡ is_set line
-  pub from_is : r.from ≡ word_end line
-  pub within : r.from ≤ length line
+-- what `set_part` gives: where the word of the line ends, if it is one
+pub record SetFrom (line : List ℕ) (from : ℕ) : Type 0 where
+  pub found_is : is_set line ≡ true
+  pub from_is : from ≡ word_end line
+  pub within : from ≤ length line
+
+abbrev pub SetPartOf : List ℕ → Option ℕ → Type 0
+SetPartOf line (Some from) = SetFrom line from
+SetPartOf line None = is_set line ≡ false

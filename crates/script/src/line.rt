@@ -4,9 +4,9 @@ ghost use Rattle.text.specs.Words.{words_of};
 ghost use Rattle.script.specs.Fields.{alone_field, hex_field, number_after, counted, field_of, held_in, Says};
 ghost use Rattle.script.specs.Lines.{heard_into, heard_in, SetPartOf};
 
-use text::digits::{Number, parse_number};
+use text::digits::parse_number;
 use text::words::find;
-use text::{Hex, parse_hex, same, word_end};
+use text::{parse_hex, same, word_end};
 
 // What may follow a word.
 pub const NEVER: u8 = 0;
@@ -35,13 +35,6 @@ pub struct Heard {
     pub held: Held,
 }
 
-// Whether a line's word is `set`, and where it ends.
-#[derive(Drop)]
-pub struct SetPart {
-    pub found: bool,
-    pub from: usize,
-}
-
 fn hold_nothing(tail: &[u8]) -> Held
     ensures { Says result (alone_field tail.now) }
 {
@@ -62,30 +55,28 @@ fn hold_octets(tail: &[u8], octets: &mut [u8]) -> Held
     if tail.len() == 1 {
         return Held::Unread;
     }
-    let h = parse_hex(&tail[1..], octets);
-    match h {
-        Hex::Octets(n) => Held::Octets(n),
-        Hex::Long => Held::Unread,
-        Hex::Garbled => Held::Unread,
+    match parse_hex(&tail[1..], octets) {
+        Ok(n) => Held::Octets(n),
+        Err(_) => Held::Unread,
     }
 }
 
 // A space and a whole number.
-pub fn number_after(tail: &[u8]) -> Number
+pub fn number_after(tail: &[u8]) -> Option<u32>
     ensures { result ≡ number_after tail.now }
 {
-    if tail.len() == 0 {
-        return Number::Unread;
+    match tail {
+        [] => None,
+        [_, digits @ ..] => parse_number(digits),
     }
-    parse_number(&tail[1..])
 }
 
-fn hold_number(v: Number) -> Held
+fn hold_number(v: Option<u32>) -> Held
     ensures { Says result (counted v) }
 {
     match v {
-        Number::Value(n) => Held::Number(n),
-        Number::Unread => Held::Unread,
+        Some(n) => Held::Number(n),
+        None => Held::Unread,
     }
 }
 
@@ -142,14 +133,17 @@ pub fn read_line(
     Heard { word: w, held }
 }
 
-// Whether a line is one with settings, and where they begin.
-pub fn set_part(line: &[u8]) -> SetPart
+// Where the settings of a line begin that has them: its word is `set`.
+pub fn set_part(line: &[u8]) -> Option<usize>
     ensures { SetPartOf line.now result }
 {
-    let from = word_end(line);
     if LONGEST < line.len() {
-        return SetPart { found: false, from };
+        return None;
     }
-    let found = same(&line[..from], b"set");
-    SetPart { found, from }
+    let from = word_end(line);
+    if same(&line[..from], b"set") {
+        Some(from)
+    } else {
+        None
+    }
 }

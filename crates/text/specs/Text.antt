@@ -1,9 +1,9 @@
 -- Text as lists of octets: words, hexadecimal octets in lower case (01, "Script words"), and numbers in decimal.
-use Rattle.std.specs.Prelude.{◌≡◌, Bool, true, false, List, [], ◌∷◌, ℕ, zero, suc, ◌+◌, ◌-◌, ◌*◌, ◌/◌, ◌%◌, ◌≤◌, min, eqb, leb, ltb, length, drop}
+use Rattle.std.specs.Prelude.{◌≡◌, Bool, true, false, List, [], ◌∷◌, ℕ, zero, suc, ◌+◌, ◌-◌, ◌*◌, ◌/◌, ◌%◌, ◌≤◌, min, eqb, leb, ltb, length, drop, Result, Ok, Err}
 use Rattle.std.proofs.lemmas.List.Edits.{sets}
 use Rattle.text.specs.declared.Spelt.{Spelt}
-use Rattle.text.specs.declared.Hex.{Hex}
-use Rattle.text.specs.declared.Hex.TheVariants.{Octets, Long, Garbled}
+use Rattle.text.specs.declared.HexFault.{HexFault}
+use Rattle.text.specs.declared.HexFault.TheVariants.{Long, Garbled}
 
 abbrev pub pick {ℓ} : {A : Type ℓ} → Bool → A → A → A
 pick true a b = a
@@ -33,15 +33,15 @@ octets_of (a ∷ []) = []
 octets_of (a ∷ b ∷ s) = (digit_of a * 16 + digit_of b) ∷ octets_of s
 
 -- what reading hexadecimal text into a buffer of `most` octets finds
-unfoldable pub hex_of : ℕ → List ℕ → Hex
-hex_of most s = pick (hex_good s) (pick (leb (length s / 2) most) (Octets (length s / 2)) Long) Garbled
+unfoldable pub hex_of : ℕ → List ℕ → Result ℕ HexFault
+hex_of most s = pick (hex_good s) (pick (leb (length s / 2) most) (Ok (length s / 2)) (Err Long)) (Err Garbled)
 
 -- and what the buffer then holds: the octets at its front, or what it held
 unfoldable pub hex_into : List ℕ → List ℕ → List ℕ
 hex_into out s = pick (hex_good s) (pick (leb (length s / 2) (length out)) (sets out 0 (octets_of s)) out) out
 
 -- what `parse_hex` gives
-pub record HexRead (out s : List ℕ) (r : Hex) (after : List ℕ) : Type 0 where
+pub record HexRead (out s : List ℕ) (r : Result ℕ HexFault) (after : List ℕ) : Type 0 where
   pub found_is : r ≡ hex_of (length out) s
   pub buffer_is : after ≡ hex_into out s
 

@@ -9,11 +9,9 @@ ghost use Rattle.std.proofs.lemmas.List.Edits.{sets};
 ghost use Rattle.text.specs.Text.{digit_of, hex_good, octets_of, same_text, glyph_of, hex_text, decimal, HexRead, WordEnds, Spells, Least};
 ghost use Rattle.text.specs.Page.{page, Writes};
 
-// What reading hexadecimal text finds.
-#[derive(Drop)]
-pub enum Hex {
-    // How many octets there are.
-    Octets(usize),
+// Why hexadecimal text is not read.
+#[derive(Clone, Copy, PartialEq, Eq, Debug)]
+pub enum HexFault {
     // More than the buffer holds.
     Long,
     // No hexadecimal text.
@@ -112,19 +110,19 @@ fn hex_fill(s: &[u8], out: &mut [u8])
     }
 }
 
-// The octets that the hexadecimal text `s` spells, at the start of `out`; a refusal leaves `out` as it was.
-pub fn parse_hex(s: &[u8], out: &mut [u8]) -> Hex
+// The octets that the hexadecimal text `s` spells, at the start of `out`, and how many they are; a refusal leaves `out` as it was.
+pub fn parse_hex(s: &[u8], out: &mut [u8]) -> Result<usize, HexFault>
     ensures { HexRead out.old s.now result out.new }
 {
     if !hex_good(s) {
-        return Hex::Garbled;
+        return Err(HexFault::Garbled);
     }
     let n = s.len() / 2;
     if n > out.len() {
-        return Hex::Long;
+        return Err(HexFault::Long);
     }
     hex_fill(s, out);
-    Hex::Octets(n)
+    Ok(n)
 }
 
 // Where the first space stands, or the end.

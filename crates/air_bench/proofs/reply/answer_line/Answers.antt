@@ -6,10 +6,10 @@ pub returns-then-b : goal.returns-then-b
 returns-then-b c = rw (line-play air_bench c.args.b c.args.line.now c.if-b.true) c.play.ensures
 
 pub slice_bounds-set_line-count : goal.slice_bounds-set_line-count
-slice_bounds-set_line-count c = c.set_part-s.ensures.within
+slice_bounds-set_line-count c = c.in-Some.ensures.within
 
-pub returns-then-s : goal.returns-then-s
-returns-then-s c = rw (line_set air_bench c.args.b c.args.line.now c.if-b.false c.set_part-s.result c.set_part-s.ensures c.if-s.true) c.set_line.ensures
+pub returns-in-Some : goal.returns-in-Some
+returns-in-Some c = rw (line_set air_bench c.args.b c.args.line.now c.if-b.false _ c.in-Some.ensures) c.set_line.ensures
 
-pub returns : goal.returns
-returns c = rw (line_other air_bench c.args.b c.args.line.now c.if-b.false c.set_part-s.result c.set_part-s.ensures c.if-s.false) c.refuse_line.ensures
+pub returns-in-None : goal.returns-in-None
+returns-in-None c = rw (line_other air_bench c.args.b c.args.line.now c.if-b.false c.in-None.ensures) c.refuse_line.ensures

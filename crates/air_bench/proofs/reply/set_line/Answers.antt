@@ -10,8 +10,8 @@ returns-in_default c = rw (← c.number_after-v.ensures, c.in_default.is) c.refu
 
 pub returns-then-refusal-ne0 : goal.returns-then-refusal-ne0
 unfolding setting_reply open_reply
-returns-then-refusal-ne0 c = rw (← c.number_after-v.ensures, c.in-Value.is, ← c.open-o.ensures, ne_eqb _ 0 c.if-refusal-ne0.true) c.refuse_line-then-refusal-ne0.ensures
+returns-then-refusal-ne0 c = rw (← c.number_after-v.ensures, c.in-Some.is, ← c.open-o.ensures, ne_eqb _ 0 c.if-refusal-ne0.true) c.refuse_line-then-refusal-ne0.ensures
 
 pub returns : goal.returns
 unfolding setting_reply open_reply
-returns c = rw (← c.number_after-v.ensures, c.in-Value.is, ← c.open-o.ensures, eq-eqb _ 0 c.if-refusal-ne0.false) (record { box_is = refl; text_is = c.put_text-a.ensures; short = lit≤ tt })
+returns c = rw (← c.number_after-v.ensures, c.in-Some.is, ← c.open-o.ensures, eq-eqb _ 0 c.if-refusal-ne0.false) (record { box_is = refl; text_is = c.put_text-a.ensures; short = lit≤ tt })

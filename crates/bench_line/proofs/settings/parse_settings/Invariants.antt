@@ -5,8 +5,5 @@ use Prim.Native.Nat.{◌-◌, ◌≤◌}
 use mathlib.Core.Path.{◌≡◌}
 use Rattle.bench_line.proofs.settings.parse_settings.Given as goal
 
-abbrev pub invariant-loop-i : goal.invariant-loop-i
-invariant-loop-i l = (l.i ≤ timers) × (l.at ≤ length l.s) × (settings_from (timers - l.i) l.i l.list (drop l.at l.s) ≡ settings_in l.s)
-
-abbrev pub decreases-loop-i : goal.decreases-loop-i
-decreases-loop-i l = timers - l.i
+abbrev pub invariant-loop-setting : goal.invariant-loop-setting
+invariant-loop-setting l = (l.at ≤ length l.s) × (settings_from (timers - l.setting-index) l.setting-index l.setting-items (drop l.at l.s) ≡ settings_in l.s)

@@ -14,8 +14,8 @@ unfolding elapse_line
 returns-in_default c = rw (← c.number_after.ensures, c.in_default.is) c.refuse_line.ensures
 
 pub returns-then-not-both_ready : goal.returns-then-not-both_ready
-returns-then-not-both_ready c = rw (← c.number_after.ensures, c.in-Value.is, elapse-unset (world_of c.args.w) _ (sym c.both_ready.ensures ∙ not-true c.both_ready.result c.if-not-both_ready.true-raw)) c.refuse_line-then-not-both_ready.ensures
+returns-then-not-both_ready c = rw (← c.number_after.ensures, c.in-Some.is, elapse-unset (world_of c.args.w) _ (sym c.both_ready.ensures ∙ not-true c.both_ready.result c.if-not-both_ready.true-raw)) c.refuse_line-then-not-both_ready.ensures
 
 pub returns : goal.returns
 unfolding ended
-returns c = let f = c.elapse_both-f.ensures in rw (← c.number_after.ensures, c.in-Value.is, elapse-goes (world_of c.args.w) _ (sym c.both_ready.ensures ∙ not-false c.both_ready.result c.if-not-both_ready.false-raw)) (record { world_is = f.world_is; text_is = after f.text_is c.put_byte.ensures; short = line-short [] (lit≤ tt) f })
+returns c = let f = c.elapse_both-f.ensures in rw (← c.number_after.ensures, c.in-Some.is, elapse-goes (world_of c.args.w) _ (sym c.both_ready.ensures ∙ not-false c.both_ready.result c.if-not-both_ready.false-raw)) (record { world_is = f.world_is; text_is = after f.text_is c.put_byte.ensures; short = line-short [] (lit≤ tt) f })

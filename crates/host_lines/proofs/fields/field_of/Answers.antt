@@ -1,14 +1,10 @@
 use Rattle.host_lines.specs.Fields.{held_by}
 use Rattle.host_lines.proofs.fields.field_of.Goals as goal
 
-pub returns-in-Octets : goal.returns-in-Octets
+pub returns-in-Ok : goal.returns-in-Ok
 unfolding held_by
-returns-in-Octets c = rw c.in-Octets.is
+returns-in-Ok c = rw c.in-Ok.is
 
-pub returns-in-Long : goal.returns-in-Long
+pub returns-in-Err : goal.returns-in-Err
 unfolding held_by
-returns-in-Long c = rw c.in-Long.is
-
-pub returns-in-Garbled : goal.returns-in-Garbled
-unfolding held_by
-returns-in-Garbled c = rw c.in-Garbled.is
+returns-in-Err c = rw c.in-Err.is

@@ -1,6 +1,5 @@
 use native.Mathlib.Omega.{arith}
-use mathlib.Core.Path.{◌≡◌, refl, subst, ◌∙◌}
-use borrow.Author.Tests.{not-true, not-false}
+use mathlib.Core.Path.{◌≡◌, refl, sym, subst, ◌∙◌}
 use Prim.Native.Nat.{ℕ, suc, ◌+◌, ◌-◌}
 use lib.ListN.{drop}
 use Rattle.host_lines.specs.Fields.{numbers_from, numbers_in}
@@ -17,24 +16,21 @@ returns-then-at-s c = let s = c.args.s.now in
     let v = subst (λ (z : ℕ). numbers_from z c.loop-i.i c.loop-i.list (drop c.loop-i.at s) ≡ numbers_in s) q c.loop-i.invariant.2 in
     numbers-end (48 - (c.loop-i.i + 1)) c.loop-i.i c.loop-i.list s c.loop-i.at c.loop-i.invariant.1 c.if-at-s.true ∙ v
 
-pub returns-then-not-n : goal.returns-then-not-n
-returns-then-not-n c = let s = c.args.s.now in
+pub returns-in_default : goal.returns-in_default
+returns-in_default c = let s = c.args.s.now in
     let q : 48 - c.loop-i.i ≡ suc (48 - (c.loop-i.i + 1)) = omega arith in
     let v = subst (λ (z : ℕ). numbers_from z c.loop-i.i c.loop-i.list (drop c.loop-i.at s) ≡ numbers_in s) q c.loop-i.invariant.2 in
-    let r = c.number_step-n in
-    c.no_numbers.ensures ∙ numbers-stop (48 - (c.loop-i.i + 1)) c.loop-i.i c.loop-i.list s c.loop-i.at c.loop-i.invariant.1 r.result r.ensures c.if-at-s.false (not-true _ c.if-not-n.true) ∙ v
+    c.no_numbers.ensures ∙ numbers-stop (48 - (c.loop-i.i + 1)) c.loop-i.i c.loop-i.list s c.loop-i.at c.loop-i.invariant.1 c.if-at-s.false (sym c.in_default.is ∙ c.number_step.ensures) ∙ v
 
 pub overflow_add-at : goal.overflow_add-at
 overflow_add-at c = let s = c.args.s.now in
-    let r = c.number_step-n in
-    omega (arith, numbers-within (48 - (c.loop-i.i + 1)) c.loop-i.i c.loop-i.list s c.loop-i.at c.loop-i.invariant.1 r.result r.ensures c.if-at-s.false)
+    omega (arith, numbers-within (48 - (c.loop-i.i + 1)) c.loop-i.i c.loop-i.list s c.loop-i.at c.loop-i.invariant.1 c.if-at-s.false c.in-Some.n c.in-Some.ensures)
 
 pub loop-i-preserved : goal.loop-i-preserved
 loop-i-preserved c = let s = c.args.s.now in
     let q : 48 - c.loop-i.i ≡ suc (48 - (c.loop-i.i + 1)) = omega arith in
     let v = subst (λ (z : ℕ). numbers_from z c.loop-i.i c.loop-i.list (drop c.loop-i.at s) ≡ numbers_in s) q c.loop-i.invariant.2 in
-    let r = c.number_step-n in
-    (omega arith, numbers-within (48 - (c.loop-i.i + 1)) c.loop-i.i c.loop-i.list s c.loop-i.at c.loop-i.invariant.1 r.result r.ensures c.if-at-s.false, numbers_more (48 - (c.loop-i.i + 1)) c.loop-i.i c.loop-i.list s c.loop-i.at c.loop-i.invariant.1 r.result r.ensures c.if-at-s.false (not-false _ c.if-not-n.false) ∙ v)
+    (omega arith, numbers-within (48 - (c.loop-i.i + 1)) c.loop-i.i c.loop-i.list s c.loop-i.at c.loop-i.invariant.1 c.if-at-s.false c.in-Some.n c.in-Some.ensures, numbers_more (48 - (c.loop-i.i + 1)) c.loop-i.i c.loop-i.list s c.loop-i.at c.loop-i.invariant.1 c.if-at-s.false c.in-Some.n c.in-Some.ensures ∙ v)
 
 pub returns : goal.returns
 returns c = let s = c.args.s.now in

@@ -10,14 +10,12 @@ returns-then-b c = let a = c.args in
     hears-as _ _ (ready-heard a.b a.line.now _ c.if-octets-lt-ROOM.false c.if-b.true) c.hear_call.ensures
 
 pub slice_bounds-hear_settings-count : goal.slice_bounds-hear_settings-count
-slice_bounds-hear_settings-count c = c.set_part-s.ensures.within
+slice_bounds-hear_settings-count c = c.in-Some.ensures.within
 
-pub returns-then-s : goal.returns-then-s
-returns-then-s c = let a = c.args in
-    let s = c.set_part-s in
-    hears-as _ _ (set-heard a.b a.line.now _ c.if-octets-lt-ROOM.false c.if-b.false s.result s.ensures c.if-s.true) c.hear_settings.ensures
+pub returns-in-Some : goal.returns-in-Some
+returns-in-Some c = let a = c.args in
+    hears-as _ _ (set-heard a.b a.line.now _ c.if-octets-lt-ROOM.false c.if-b.false _ c.in-Some.ensures) c.hear_settings.ensures
 
-pub returns : goal.returns
-returns c = let a = c.args in
-    let s = c.set_part-s in
-    hears-as _ _ (other-heard a.b a.line.now _ c.if-octets-lt-ROOM.false c.if-b.false s.result s.ensures c.if-s.false) (c.nothing-2.ensures _)
+pub returns-in-None : goal.returns-in-None
+returns-in-None c = let a = c.args in
+    hears-as _ _ (other-heard a.b a.line.now _ c.if-octets-lt-ROOM.false c.if-b.false c.in-None.ensures) (c.nothing-in-None.ensures _)
