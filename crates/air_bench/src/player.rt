@@ -28,15 +28,14 @@ pub struct Played {
     pub failed: bool,
 }
 
-// Answers every line of the input. A proved loop has to end, so it counts down from a number that no run uses up.
+// Answers every line of the input. A proved loop has to end, so it turns as often as no run does.
 fn run(stdin: Stdin, t: Trace, chunk: &mut [u8], line: &mut [u8], out: &mut [u8]) -> Played
     requires { 131072 ≤ length out.old }
     ensures { Plays air_bench (length line.old) (left true []) t.number t.setup result.trace.number result.trace.setup result.failed }
 {
     let mut e = t;
     let mut input = start();
-    let mut turns: u64 = 18446744073709551615;
-    while turns > 0 {
+    for _ in 0..u64::MAX {
         let l = pull_line(stdin, input, e.at, chunk, line, out);
         input = l.input;
         e.at = l.at;
@@ -48,7 +47,6 @@ fn run(stdin: Stdin, t: Trace, chunk: &mut [u8], line: &mut [u8], out: &mut [u8]
         }
         let n = shown(l.len, line);
         e = add_line(e, &line[..n], out);
-        turns -= 1;
     }
     Played {
         trace: e,

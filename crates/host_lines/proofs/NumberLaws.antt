@@ -54,16 +54,13 @@ numbers-out (suc k) i list s z = absurd (omega arith)
 numbers-most : (k i : ℕ) (list s : List ℕ) → (numbers_from k i list s).count ≤ i + k
 unfolding numbers_from
 numbers-most zero i list s = omega arith
-numbers-most (suc k) i list s = pick-most (eqb (length s) 0) (step_of s)
+numbers-most (suc k) i list s = go (eqb (length s) 0) (step_of s) (λ n. numbers-most k (i + 1) (set list i n.value) (drop n.used s))
   where
-    step-most : (x : Option Stepped) → (with_step x no_numbers (λ n. numbers_from k (i + 1) (set list i n.value) (drop n.used s))).count ≤ i + suc k
-    step-most (Some n) = omega (arith, numbers-most k (i + 1) (set list i n.value) (drop n.used s))
-    step-most None = omega arith
-
-    pick-most : (a : Bool) (x : Option Stepped)
+    go : (a : Bool) (x : Option Stepped) → ((n : Stepped) → (numbers_from k (i + 1) (set list i n.value) (drop n.used s)).count ≤ i + 1 + k)
         → (pick a (record { good = true; count = i; list = list }) (with_step x no_numbers (λ n. numbers_from k (i + 1) (set list i n.value) (drop n.used s)))).count ≤ i + suc k
-    pick-most true x = omega arith
-    pick-most false x = step-most x
+    go true x h = omega arith
+    go false (Some n) h = omega (arith, h n)
+    go false None h = omega arith
 
 pub numbers_fit : (s : List ℕ) → (numbers_in s).count ≤ 48
 unfolding numbers_in

@@ -107,11 +107,12 @@ Ten x = IfSome x (λ s. length s ≡ timers)
 settings-long : (k i : ℕ) (list s : List ℕ) → length list ≡ timers → Ten (settings_from k i list s)
 unfolding settings_from
 settings-long zero i list s h = pick-case Ten (eqb (length s) 0) (λ e. h) (λ e. tt)
-settings-long (suc k) i list s h = go (step_of s)
+settings-long (suc k) i list s h = go (step_of s) (λ n. settings-long k (i + 1) (set list i n.value) (drop n.used s) (length-set list i n.value ∙ h))
   where
-    go : (x : Option Stepped) → Ten (with_step x None (λ n. settings_from k (i + 1) (set list i n.value) (drop n.used s)))
-    go (Some n) = settings-long k (i + 1) (set list i n.value) (drop n.used s) (length-set list i n.value ∙ h)
-    go None = tt
+    go : (x : Option Stepped) → ((n : Stepped) → Ten (settings_from k (i + 1) (set list i n.value) (drop n.used s)))
+        → Ten (with_step x None (λ n. settings_from k (i + 1) (set list i n.value) (drop n.used s)))
+    go (Some n) f = f n
+    go None f = tt
 
 pub ten-settings : (s : List ℕ) → IfSome (settings_in s) (λ list. length list ≡ timers)
 unfolding settings_in

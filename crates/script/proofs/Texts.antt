@@ -1,12 +1,10 @@
 -- Laws of the text of an answer. Assumes nothing.
 use mathlib.Core.Path.{◌≡◌, refl}
 use mathlib.Core.List.{List, [], ◌∷◌, ◌++◌}
-use Prim.Native.Nat.{ℕ, zero, suc, ◌+◌, ◌≤◌, ◌<◌, suc-le-suc, min}
-use native.Mathlib.Nat.{not-suc-le-zero, le_of_suc-le-suc, min-le_left}
+use Prim.Native.Nat.{ℕ, ◌+◌, ◌≤◌, ◌<◌}
 use native.Mathlib.Omega.{arith}
 use borrow.Author.Tests.{ne_eqb, lt-ltb, le-ltb, le-leb, lt-leb}
 use lib.ListN.{length, get_or, take, drop, drop_of_length-le}
-use lib.Seq.{get_or-take}
 use Rattle.text.specs.Text.{hex_text}
 use Rattle.text.specs.Page.{Page, wrote, Writes}
 use Rattle.text.specs.Words.{word_at}
@@ -49,22 +47,12 @@ module _ (c : ℕ) (sent : List ℕ) (reason : ℕ) (came : List ℕ) where
   unfolding behind
   behind-over h f s = rw (le-leb 1 c (omega arith), lt-leb c 4 (omega arith), ne_eqb c 5 f, ne_eqb c 6 s)
 
-pub under_left : (i a b : ℕ) → i < min a b → i < a
-under_left i a b h = omega (arith, min-le_left a b, h)
-
-in_both : (k : ℕ) (l : List ℕ) (i : ℕ) → i < k → i < length l → i < length (take k l)
-in_both zero l i f h = absurd (not-suc-le-zero f)
-in_both (suc k) [] i f h = absurd (not-suc-le-zero h)
-in_both (suc k) (x ∷ l) zero f h = omega arith
-in_both (suc k) (x ∷ l) (suc i) f h = suc-le-suc (in_both k l i (le_of_suc-le-suc f) (le_of_suc-le-suc h))
-
--- an entry among the first k, and those after it
-pub entry-step : {p q : Page} (ns : Names) (l octets : List ℕ) (k i n r reason : ℕ) (came x : List ℕ) → i < k → i < length l → r ≡ rest_of (get_or l i 0) n
+-- an entry and those after it
+pub entry-step : {p q : Page} (ns : Names) (l octets : List ℕ) (i n r reason : ℕ) (came x : List ℕ) → i < length l → r ≡ rest_of (get_or l i 0) n
     → x ≡ take n octets → Writes p (entry_text ns (get_or l i 0) x reason came) q
-    → wrote q (entries_of ns (drop (i + 1) (take k l)) octets r reason came) ≡ wrote p (entries_of ns (drop i (take k l)) octets n reason came)
-entry-step {p} {q} ns l octets k i n r reason came x f h e m w =
-    let g : i < length (take k l) = in_both k l i f h in
-    rw (w.is, m, e, next (take k l) i g, get_or-take k l i 0 f) (wrote-append p (entry_text ns (get_or l i 0) (take n octets) reason came) (entries_of ns (drop (i + 1) (take k l)) octets (rest_of (get_or l i 0) n) reason came))
+    → wrote q (entries_of ns (drop (i + 1) l) octets r reason came) ≡ wrote p (entries_of ns (drop i l) octets n reason came)
+entry-step {p} {q} ns l octets i n r reason came x h e m w =
+    rw (w.is, m, e, next l i h) (wrote-append p (entry_text ns (get_or l i 0) (take n octets) reason came) (entries_of ns (drop (i + 1) l) octets (rest_of (get_or l i 0) n) reason came))
 
-pub entry-end : (p : Page) (ns : Names) (l octets : List ℕ) (k i n reason : ℕ) (came : List ℕ) → length (take k l) ≤ i → wrote p (entries_of ns (drop i (take k l)) octets n reason came) ≡ p
-entry-end p ns l octets k i n reason came h = rw (drop_of_length-le (take k l) h)
+pub entry-end : (p : Page) (ns : Names) (l octets : List ℕ) (i n reason : ℕ) (came : List ℕ) → length l ≤ i → wrote p (entries_of ns (drop i l) octets n reason came) ≡ p
+entry-end p ns l octets i n reason came h = rw (drop_of_length-le l h)

@@ -92,13 +92,10 @@ fn put_entries(
 ) -> usize
     ensures { Writes (page out.old at) (entries_of (names (words_of words.now begins.now) (words_of timers.now starts.now)) (take b.acts.n b.acts.list) sent.now (length sent.now) b.reason came.now) (page out.new result) }
 {
-    let acts = b.acts;
-    let list = acts.list;
-    let n = least(acts.n, 8);
+    let n = least(b.acts.n, 8);
     let mut left = sent.len();
     let mut a = at;
-    let mut i = 0;
-    while i < n {
+    for c in &b.acts.list[..n] {
         let m = least(left, sent.len());
         a = put_entry(
             out,
@@ -107,13 +104,12 @@ fn put_entries(
             begins,
             timers,
             starts,
-            list[i],
+            *c,
             &sent[..m],
             b.reason,
             came,
         );
-        left = rest_of(list[i], left);
-        i += 1;
+        left = rest_of(*c, left);
     }
     a
 }

@@ -5,22 +5,22 @@ use Rattle.air_bench.specs.Replies.{air_bench}
 use Rattle.script.proofs.Playing.{plays-none, plays-failed, plays-line, well-found, shown-line}
 use Rattle.air_bench.proofs.player.run.Goals as goal
 
-pub loop-turns-init : goal.loop-turns-init
-loop-turns-init c = (refl, refl, refl, λ n b f d. rw c.start-input.ensures at d)
+pub loop-init : goal.loop-init
+loop-init c = (refl, refl, refl, λ n b f d. rw c.start-input.ensures at d)
 
 pub returns-then-not-l : goal.returns-then-not-l
-returns-then-not-l c = let v = c.loop-turns.invariant in
+returns-then-not-l c = let v = c.loop.invariant in
     let l = c.pull_line-l.ensures in
     v.3 _ _ _ (plays-none air_bench (not-true _ c.if-not-l.true) (λ well. rw v.1 at (l.line_is well)))
 
-pub slice_bounds-add_line-end-in-loop-turns : goal.slice_bounds-add_line-end-in-loop-turns
-slice_bounds-add_line-end-in-loop-turns c = c.shown-n.ensures.there.1
+pub slice_bounds-add_line-end-in-loop : goal.slice_bounds-add_line-end-in-loop
+slice_bounds-add_line-end-in-loop c = c.shown-n.ensures.there.1
 
 pub add_line-e-requires : goal.add_line-e-requires
-add_line-e-requires c = omega (arith, c.pull_line-l.ensures.room, c.loop-turns.invariant.2, c.requires)
+add_line-e-requires c = omega (arith, c.pull_line-l.ensures.room, c.loop.invariant.2, c.requires)
 
-pub loop-turns-preserved : goal.loop-turns-preserved
-loop-turns-preserved c = let v = c.loop-turns.invariant in
+pub loop-preserved : goal.loop-preserved
+loop-preserved c = let v = c.loop.invariant in
     let l = c.pull_line-l.ensures in
     let k = c.pull_line-l.auto in
     let d = c.add_line-e.ensures in
@@ -32,4 +32,4 @@ loop-turns-preserved c = let v = c.loop-turns.invariant in
     )
 
 pub returns : goal.returns
-returns c = c.loop-turns.invariant.3 _ _ _ (plays-failed air_bench)
+returns c = c.loop.invariant.3 _ _ _ (plays-failed air_bench)

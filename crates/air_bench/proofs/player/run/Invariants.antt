@@ -9,8 +9,5 @@ use Rattle.air_bench.specs.Replies.{air_bench}
 use Rattle.air_bench.specs.declared.reply.Setup.{Setup}
 use Rattle.air_bench.proofs.player.run.Given as goal
 
-abbrev pub invariant-loop-turns : goal.invariant-loop-turns
-invariant-loop-turns l = (length l.chunk ≡ length l.initial.chunk) × (length l.line ≡ length l.initial.line) × (length l.out ≡ length l.initial.out) × ((n : ℕ) (b : Setup) (f : Bool) → Plays air_bench (length l.initial.line) (left_of l.input l.chunk) l.e.number l.e.setup n b f → Plays air_bench (length l.initial.line) (left true []) l.initial.e.number l.initial.e.setup n b f)
-
-abbrev pub decreases-loop-turns : goal.decreases-loop-turns
-decreases-loop-turns l = l.turns
+abbrev pub invariant-loop : goal.invariant-loop
+invariant-loop l = (length l.chunk ≡ length l.initial.chunk) × (length l.line ≡ length l.initial.line) × (length l.out ≡ length l.initial.out) × ((n : ℕ) (b : Setup) (f : Bool) → Plays air_bench (length l.initial.line) (left_of l.input l.chunk) l.e.number l.e.setup n b f → Plays air_bench (length l.initial.line) (left true []) l.initial.e.number l.initial.e.setup n b f)
