@@ -2,14 +2,12 @@
 use Prim.Native.Nat.{ℕ, ◌+◌, ◌-◌, ◌≤◌, ◌<◌}
 use mathlib.Core.Path.{◌≡◌, refl, ap, ◌∙◌}
 use mathlib.Core.Bool.{Bool, true, false}
-use mathlib.Core.List.{List, [], ◌∷◌, ◌++◌, append-nil}
+use mathlib.Core.List.{List, ◌++◌, append-nil}
 use native.Mathlib.Omega.{arith}
 use borrow.Author.Tests.{eq-eqb, ne_eqb, lt-ltb, le-ltb, leb-true, eqb-true}
 use lib.Dec.{eqb, leb}
 use lib.ListN.{length, get_or, length-append, drop_of_length-le}
 use lib.Seq.{sets, sets-eq}
-use types.Run.{OneOf, miss}
-use denote.Enum.Declared.{tag_of}
 use Rattle.link.specs.Tests.{pick}
 use Rattle.octets.specs.Octets.{quad, pair, pair_at, zeros}
 use Rattle.octets.specs.laws.Runs.{length-zeros, sets-append}
@@ -24,13 +22,10 @@ use Rattle.log_blocks.specs.Block.{BLOCKS, ROOM, all_zero, payload, block_of}
 use Rattle.log_blocks.specs.Record.{Rec, rec, noted, rec_octets}
 use Rattle.log_blocks.specs.Tapes.{tape, written, fitting, appended, appended_to, follows, finished, finished_to, Appends, Finishes}
 use Rattle.log_blocks.specs.declared.Tape.{Tape}
-use Rattle.log_blocks.specs.contracts.Appended as appended-of
-use Rattle.log_blocks.specs.contracts.Finished as finished-of
-use Rattle.script.specs.contracts.line.Held as held_of
-use Rattle.log_blocks.specs.declared.Appended.{Appended}
-use Rattle.log_blocks.specs.declared.Appended.TheVariants.{Wrote, Full, Ended, Refused}
-use Rattle.log_blocks.specs.declared.Finished.{Finished}
-use Rattle.log_blocks.specs.declared.Finished.TheVariants.{Next, Last, Unfit}
+use Rattle.log_blocks.specs.declared.NotWritten.{NotWritten}
+use Rattle.log_blocks.specs.declared.NotWritten.TheVariants.{Full, Ended, Refused}
+use Rattle.log_blocks.specs.declared.Unfit.{Unfit}
+use Rattle.std.specs.Prelude.{Option, Some, None, Result, Ok, Err}
 use Rattle.log_play.specs.Steps.{field_in, SETTINGS-OCTETS}
 use Rattle.log_play.specs.Plays.{play_block, played_in}
 use Rattle.log_play.specs.declared.block.Played.{Played}
@@ -38,30 +33,19 @@ use Rattle.host_log.specs.Recording.{Keeps, empty_block, block_opened, tape_in, 
 use Rattle.host_log.specs.Playing.{box_in, box_good, box_out, played_out, block_played}
 
 -- ---- what an answer is not, by the arms of a match that did not take it
-pub was-full : (a : Appended) → OneOf (1 ∷ 2 ∷ 3 ∷ []) (tag_of appended-of.the_type a) → (t : Tape) → a ≡ Wrote t → ⊥
-was-full (Wrote u) k t e = miss (1 ∷ 2 ∷ 3 ∷ []) 0 tt k
-was-full Full k t e = let z : ◌≡◌ {A = ℕ} 0 1 = cc in omega arith
-was-full Ended k t e = let z : ◌≡◌ {A = ℕ} 0 1 = cc in omega arith
-was-full Refused k t e = let z : ◌≡◌ {A = ℕ} 0 1 = cc in omega arith
-
-pub was-fit : (f : Finished) → OneOf (0 ∷ 1 ∷ []) (tag_of finished-of.the_type f) → f ≡ Unfit → ⊥
-was-fit (Next t) k e = let z : ◌≡◌ {A = ℕ} 0 1 = cc in omega arith
-was-fit Last k e = let z : ◌≡◌ {A = ℕ} 0 1 = cc in omega arith
-was-fit Unfit k e = miss (0 ∷ 1 ∷ []) 2 tt k
-
-pub was-held : (d : List ℕ) (h : Held) → OneOf (1 ∷ 2 ∷ []) (tag_of held_of.the_type h) → true ≡ readable (held_in h d)
+pub was-held : (d : List ℕ) (h : Held) → (h ≡ held.Unread → ⊥) → true ≡ readable (held_in h d)
 unfolding held_in
-was-held d held.Unread k = absurd (miss (1 ∷ 2 ∷ []) 0 tt k)
+was-held d held.Unread k = absurd (k refl)
 was-held d (held.Octets n) k = refl
 was-held d (held.Number n) k = refl
 
 -- what is written is no more than a block has room for
-pub wrote-small : (t : Tape) (b : List ℕ) (r : Rec) (u : Tape) (x : List ℕ) → Appends t b r (Wrote u) x → u.used ≤ 504
+pub wrote-small : (t : Tape) (b : List ℕ) (r : Rec) (u : Tape) (x : List ℕ) → Appends t b r (Ok u) x → u.used ≤ 504
 unfolding appended
 wrote-small t b r u x a = go (fitting t (length b)) (leb (t.used + length (rec_octets r)) ROOM) refl (follows t) a.answer_is
   where
     go : (c d : Bool) → leb (t.used + length (rec_octets r)) ROOM ≡ d → (f : Bool)
-        → Wrote u ≡ pick c (pick d (Wrote (tape t.number (t.used + length (rec_octets r)))) (pick f Full Ended)) Refused → u.used ≤ 504
+        → Ok u ≡ pick c (pick d (Ok (tape t.number (t.used + length (rec_octets r)))) (Err (pick f Full Ended))) (Err Refused) → u.used ≤ 504
     go true true e f q =
         let m : u ≡ tape t.number (t.used + length (rec_octets r)) = cc in
         rw m (leb-true (t.used + length (rec_octets r)) ROOM e)
@@ -124,7 +108,7 @@ module _ (b : List ℕ) (r : Rec) where
       -- what `append` answers of an open block
       appended-so : (c : Bool) → leb (pair_at b 4 + length (rec_octets (noted r))) ROOM ≡ c
           → appended (tape_in b) b (noted r)
-          ≡ pick c (Wrote (tape (tape_in b).number (pair_at b 4 + length (rec_octets (noted r))))) (pick (follows (tape_in b)) Full Ended)
+          ≡ pick c (Ok (tape (tape_in b).number (pair_at b 4 + length (rec_octets (noted r))))) (Err (pick (follows (tape_in b)) Full Ended))
       unfolding appended is_open
       appended-so c e = rw (h, e)
 
@@ -136,7 +120,7 @@ module _ (b : List ℕ) (r : Rec) where
       unfolding appended_to is_open
       kept-so e = rw (h, e)
 
-      pub took : (t : Tape) (x y : List ℕ) → Appends (tape_in b) b (noted r) (Wrote t) x → y ≡ sets x 4 (pair t.used) → Keeps (block_appended b r) 0 y
+      pub took : (t : Tape) (x y : List ℕ) → Appends (tape_in b) b (noted r) (Ok t) x → y ≡ sets x 4 (pair t.used) → Keeps (block_appended b r) 0 y
       unfolding block_appended record_put
       took t x y a e = go (leb (pair_at b 4 + length (rec_octets (noted r))) ROOM) refl
         where
@@ -145,17 +129,17 @@ module _ (b : List ℕ) (r : Rec) where
 
           go : (c : Bool) → leb u ROOM ≡ c → Keeps (block_appended b r) 0 y
           go true c =
-              let w : Wrote t ≡ Wrote (tape (tape_in b).number u) = a.answer_is ∙ appended-so true c in
+              let w : Ok t ≡ Ok (tape (tape_in b).number u) = a.answer_is ∙ appended-so true c in
               let m : t ≡ tape (tape_in b).number u = cc in
               rw (h, f, c)
               (record { number_is = refl; block_is = e ∙ ap (λ (s : Tape). sets x 4 (pair s.used)) m ∙ ap (λ (s : List ℕ). sets s 4 (pair u)) (a.block_is ∙ stored-so c) })
           go false c = absurd (no-wrote (follows (tape_in b)) (a.answer_is ∙ appended-so false c))
             where
-              no-wrote : (d : Bool) → Wrote t ≡ pick d Full Ended → ⊥
+              no-wrote : (d : Bool) → Ok t ≡ Err (pick d Full Ended) → ⊥
               no-wrote true q = let z : ◌≡◌ {A = ℕ} 0 1 = cc in omega arith
               no-wrote false q = let z : ◌≡◌ {A = ℕ} 0 1 = cc in omega arith
 
-      pub no_room : (a : Appended) (x : List ℕ) → Appends (tape_in b) b (noted r) a x → ((t : Tape) → a ≡ Wrote t → ⊥) → Keeps (block_appended b r) 6 x
+      pub no_room : (a : Result Tape NotWritten) (x : List ℕ) → Appends (tape_in b) b (noted r) a x → ((t : Tape) → a ≡ Ok t → ⊥) → Keeps (block_appended b r) 6 x
       unfolding block_appended
       no_room a x p n = go (leb (pair_at b 4 + length (rec_octets (noted r))) ROOM) refl
         where
@@ -168,7 +152,7 @@ module _ (b : List ℕ) (r : Rec) where
 
 -- ---- the end of a block
 module _ (b : List ℕ) where
-  finished-so : (c : Bool) → is_open b ≡ c → finished (tape_in b) (length b) ≡ pick c (pick (follows (tape_in b)) (Next (tape ((tape_in b).number + 1) 0)) Last) Unfit
+  finished-so : (c : Bool) → is_open b ≡ c → finished (tape_in b) (length b) ≡ pick c (Ok (pick (follows (tape_in b)) (Some (tape ((tape_in b).number + 1) 0)) None)) (Err (record {}))
   unfolding finished is_open
   finished-so c h = rw h
 
@@ -180,7 +164,7 @@ module _ (b : List ℕ) where
   unfolding finished_to is_open
   left_so h = rw h
 
-  pub is-finished : (f : Finished) (x : List ℕ) → Finishes (tape_in b) b f x → (f ≡ Unfit → ⊥) → Keeps (block_finished b) 0 x
+  pub is-finished : (f : Result (Option Tape) Unfit) (x : List ℕ) → Finishes (tape_in b) b f x → (f ≡ Err (record {}) → ⊥) → Keeps (block_finished b) 0 x
   unfolding block_finished
   is-finished f x p n = go (is_open b) refl
     where
@@ -188,17 +172,17 @@ module _ (b : List ℕ) where
       go true h = rw h (record { number_is = refl; block_is = p.block_is ∙ closed-so h })
       go false h = absurd (n (p.answer_is ∙ finished-so false h))
 
-  pub not-finished : (x : List ℕ) → Finishes (tape_in b) b Unfit x → Keeps (block_finished b) 20 x
+  pub not-finished : (x : List ℕ) → Finishes (tape_in b) b (Err (record {})) x → Keeps (block_finished b) 20 x
   unfolding block_finished
   not-finished x p = go (is_open b) refl
     where
-      fit : (d : Bool) → Unfit ≡ pick d (Next (tape ((tape_in b).number + 1) 0)) Last → ⊥
-      fit true q = let z : ◌≡◌ {A = ℕ} 0 1 = cc in omega arith
-      fit false q = let z : ◌≡◌ {A = ℕ} 0 1 = cc in omega arith
+      fit : (d : Bool) → (u : Unfit) → ◌≡◌ {A = Result (Option Tape) Unfit} (Err u) (Ok (pick d (Some (tape ((tape_in b).number + 1) 0)) None)) → ⊥
+      fit true u q = let z : ◌≡◌ {A = ℕ} 0 1 = cc in omega arith
+      fit false u q = let z : ◌≡◌ {A = ℕ} 0 1 = cc in omega arith
 
       go : (c : Bool) → is_open b ≡ c → Keeps (block_finished b) 20 x
       go false h = rw h (record { number_is = refl; block_is = p.block_is ∙ left_so h })
-      go true h = absurd (fit (follows (tape_in b)) (p.answer_is ∙ finished-so true h))
+      go true h = absurd (fit (follows (tape_in b)) _ (p.answer_is ∙ finished-so true h))
 
 -- ---- a record of the link
 module _ (s : List ℕ) where

@@ -13,9 +13,8 @@ use refusals::BAD_RECORD;
 fn box_in(link: &[u8]) -> Setup
     ensures { result ≡ box_in link.now }
 {
-    let blank = all_zero(link);
     Setup {
-        ready: !blank,
+        ready: !all_zero(link),
         link: load(link),
     }
 }
@@ -23,13 +22,7 @@ fn box_in(link: &[u8]) -> Setup
 fn box_good(link: &[u8]) -> bool
     ensures { result ≡ box_good link.now }
 {
-    if link.len() != RECORD {
-        return false;
-    }
-    if all_zero(link) {
-        return true;
-    }
-    is_good(load(link))
+    link.len() == RECORD && (all_zero(link) || is_good(load(link)))
 }
 
 // The record is written back only where the whole block was played; one without records leaves a record of zeros.
@@ -40,13 +33,11 @@ pub fn play_on(link: &mut [u8], block: &[u8], number: u32) -> u8
         return BAD_RECORD;
     }
     let p = play_block(box_in(link), block, number);
-    let refusal = p.refusal;
-    if refusal != 0 {
-        return refusal;
+    if p.refusal != 0 {
+        return p.refusal;
     }
-    let after = p.setup;
-    if after.ready {
-        save(after.link, link);
+    if p.setup.ready {
+        save(p.setup.link, link);
     }
     0
 }

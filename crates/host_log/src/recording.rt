@@ -4,7 +4,7 @@ ghost use Rattle.log_blocks.specs.Record.{rec};
 ghost use Rattle.host_log.specs.Recording.{tape_in, is_open, fields_good, block_opened, block_appended, block_finished, Keeps};
 
 use bench_line::line::shape_of;
-use log_blocks::{Appended, BLOCK, BLOCKS, Finished, Tape, append, finish, fits};
+use log_blocks::{BLOCK, BLOCKS, Tape, Unfit, append, finish, fits};
 use log_play::record::{SETTINGS, hold_record};
 use octets::{put_pair, put_word, put_zeros, read_pair, read_word};
 use refusals::{NO_ROOM, NOT_READABLE, OUT_OF_RANGE};
@@ -44,17 +44,10 @@ fn fields_good(kind: u8, seconds: u32, octets: &[u8]) -> bool
     ensures { result ≡ fields_good (rec kind seconds octets.now) }
 {
     if kind == 0 {
-        if seconds != 0 {
-            return false;
-        }
-        return octets.len() == SETTINGS;
+        return seconds == 0 && octets.len() == SETTINGS;
     }
     let shape = shape_of(kind as usize + 1);
-    let h = hold_record(shape, seconds, octets);
-    let Held::Unread = h else {
-        return true;
-    };
-    false
+    !matches!(hold_record(shape, seconds, octets), Held::Unread)
 }
 
 // A record that is not written leaves the block as it was.
@@ -67,9 +60,7 @@ pub fn append_record(block: &mut [u8], kind: u8, seconds: u32, octets: &[u8]) ->
     if !fields_good(kind, seconds, octets) {
         return OUT_OF_RANGE;
     }
-    let t = tape_in(block);
-    let a = append(t, block, kind, seconds, octets);
-    let Appended::Wrote(next) = a else {
+    let Ok(next) = append(tape_in(block), block, kind, seconds, octets) else {
         return NO_ROOM;
     };
     put_pair(block, 4, next.used as u16);
@@ -80,10 +71,8 @@ pub fn append_record(block: &mut [u8], kind: u8, seconds: u32, octets: &[u8]) ->
 pub fn finish_block(block: &mut [u8]) -> u8
     ensures { Keeps (block_finished block.old) result block.new }
 {
-    let t = tape_in(block);
-    let f = finish(t, block);
-    let Finished::Unfit = f else {
-        return 0;
-    };
-    NOT_READABLE
+    match finish(tape_in(block), block) {
+        Ok(_) => 0,
+        Err(Unfit) => NOT_READABLE,
+    }
 }

@@ -13,8 +13,9 @@ use Rattle.bench_line.specs.AnswerText.{answer_text, Answers}
 use Rattle.bench.specs.declared.reply.Setup.{Setup}
 use Rattle.log_blocks.specs.Log.{Read, got, bad, onto, records_of}
 use Rattle.log_blocks.specs.Record.{Rec, rec, form_one}
-use Rattle.log_blocks.specs.Places.{end_of, found_at, from}
-use Rattle.log_blocks.specs.declared.Found.TheVariants.{Record, End, Unreadable}
+use Rattle.log_blocks.specs.Places.{at_end, unreadable, end_of, found_at, from}
+use Rattle.log_blocks.specs.declared.Found.{Found}
+use Rattle.std.specs.Prelude.{Some, Ok}
 use Rattle.log_blocks.proofs.Walks.{walk_end, walk-unreadable, walk_more}
 use Rattle.log_play.specs.Plays.{stepped_by}
 use Rattle.log_play.specs.declared.record.Stepped.{Stepped}
@@ -54,36 +55,36 @@ module _ (b : Setup) (r : Rec) (s : Stepped) (m n number : ℕ) (is : s ≡ step
 
 -- ---- a block, record by record
 module _ (b : List ℕ) (at : ℕ) (h : length b ≡ 512) (room : end_of b ≤ 510) (n : ℕ) (s : Setup) where
-  pub shows-end : found_at b at ≡ End → Shows (from b at) n s n s
+  pub shows-end : found_at b at ≡ at_end → Shows (from b at) n s n s
   shows-end e = record { is = λ rs q. none rs (sym (walk_end b at h room e) ∙ q) }
     where
       none : (rs : List Rec) → ◌≡◌ {A = Read (List Rec)} (got []) (got rs) → (n ≡ count_on n rs) × (s ≡ box_on s rs)
       none rs q = let z : rs ≡ [] = cc in rw z (refl, refl)
 
-  pub shows-unreadable : (m : ℕ) (t : Setup) → found_at b at ≡ Unreadable → Shows (from b at) n s m t
+  pub shows-unreadable : (m : ℕ) (t : Setup) → found_at b at ≡ unreadable → Shows (from b at) n s m t
   shows-unreadable m t e = record { is = λ rs q. none rs (sym (walk-unreadable b at h room e) ∙ q) }
     where
       none : (rs : List Rec) → ◌≡◌ {A = Read (List Rec)} (bad 20) (got rs) → (m ≡ count_on n rs) × (t ≡ box_on s rs)
       none rs q = let z : ◌≡◌ {A = ℕ} 0 1 = cc in absurd (omega arith)
 
-  module _ (k c a l x : ℕ) (e : found_at b at ≡ Record k c a l x) where
+  module _ (f : Found) (e : found_at b at ≡ Ok (Some f)) where
     abbrev R : Rec
-    R = rec k c (take (x - a) (drop a b))
+    R = rec f.kind f.seconds (take (f.next - f.start) (drop f.start b))
 
-    pub data-few : length (take (x - a) (drop a b)) ≤ 129
-    data-few = omega (arith, length-take (x - a) (drop a b), data-place b at k c a l x e)
+    pub data-few : length (take (f.next - f.start) (drop f.start b)) ≤ 129
+    data-few = omega (arith, length-take (f.next - f.start) (drop f.start b), data-place b at f e)
 
-    next_is : records_of form_one (from b at) ≡ onto R (records_of form_one (from b x))
+    next_is : records_of form_one (from b at) ≡ onto R (records_of form_one (from b f.next))
     next_is =
-        let i : l ≡ x - a = omega (arith, data-place b at k c a l x e) in
-        walk_more b at h room k c a l x e ∙ ap (λ (j : ℕ). onto (rec k c (take j (drop a b))) (records_of form_one (from b x))) i
+        let i : f.len ≡ f.next - f.start = omega (arith, data-place b at f e) in
+        walk_more b at h room f e ∙ ap (λ (j : ℕ). onto (rec f.kind f.seconds (take j (drop f.start b))) (records_of form_one (from b f.next))) i
 
-    pub shows-record : (n₁ m : ℕ) (s₁ t : Setup) → n₁ ≡ bumped n → s₁ ≡ (stepped_by s R).setup → Shows (from b x) n₁ s₁ m t → Shows (from b at) n s m t
-    shows-record n₁ m s₁ t i j d = record { is = λ rs q. more (records_of form_one (from b x)) refl rs (sym next_is ∙ q) }
+    pub shows-record : (n₁ m : ℕ) (s₁ t : Setup) → n₁ ≡ bumped n → s₁ ≡ (stepped_by s R).setup → Shows (from b f.next) n₁ s₁ m t → Shows (from b at) n s m t
+    shows-record n₁ m s₁ t i j d = record { is = λ rs q. more (records_of form_one (from b f.next)) refl rs (sym next_is ∙ q) }
       where
-        more : (y : Read (List Rec)) → records_of form_one (from b x) ≡ y → (rs : List Rec) → onto R y ≡ got rs → (m ≡ count_on n rs) × (t ≡ box_on s rs)
-        more (got ys) f rs q =
+        more : (y : Read (List Rec)) → records_of form_one (from b f.next) ≡ y → (rs : List Rec) → onto R y ≡ got rs → (m ≡ count_on n rs) × (t ≡ box_on s rs)
+        more (got ys) g rs q =
             let z : rs ≡ R ∷ ys = cc in
-            let w = d.is ys f in
+            let w = d.is ys g in
             rw z (w.0 ∙ ap (λ (u : ℕ). count_on u ys) i, w.1 ∙ ap (λ (u : Setup). box_on u ys) j)
-        more (bad m) f rs q = let z : ◌≡◌ {A = ℕ} 0 1 = cc in absurd (omega arith)
+        more (bad m) g rs q = let z : ◌≡◌ {A = ℕ} 0 1 = cc in absurd (omega arith)

@@ -1,47 +1,39 @@
 // A flight log from standard input, the trace of its records to standard output.
-ghost use Rattle.std.specs.Prelude.{◌≡◌, ◌≤◌, true, false, length};
+ghost use Rattle.std.specs.Prelude.{◌≡◌, ◌≤◌, true, false, length, IfOk};
 ghost use Rattle.bench.specs.declared.reply.Setup.{Setup};
 ghost use Rattle.text.specs.Page.{page};
 ghost use Rattle.log_bench.specs.Logs.{outcome, ended, Ends, Closes};
 
 use crate::show::show_block;
 use bench::trace::{Trace, begin};
-use log_blocks::BLOCKS;
+use log_blocks::{BLOCK, BLOCKS};
 use log_play::block::play_block;
 use refusals::NOT_READABLE;
 use script::room::page_room;
 use script::trace::close;
+use std::io;
 use std::io::{Read, Stdin};
 use text::words::put_refused;
 use text::{put_byte, put_decimal, put_text};
 use text_lines::input::{Ended, finish};
 
-// The block that was read: `len` octets, fewer where the log ends. A read that `failed` is no end of the log.
-#[derive(Drop)]
-pub struct Pulled {
-    pub len: usize,
-    pub failed: bool,
-}
-
-// The next block. Each read brings an octet at the least, so a proved loop has turns enough.
-fn pull_block(stdin: Stdin, block: &mut [u8]) -> Pulled
-    ensures { result.len ≤ length block.new }
+// The next block: how many octets were read, fewer where the log ends. Each read brings an octet at the least, so the loop has turns enough.
+fn pull_block(stdin: Stdin, block: &mut [u8]) -> io::Result<usize>
+    ensures { IfOk result (λ n. n ≤ length block.new) }
 {
     let mut reader = stdin;
     let mut len: usize = 0;
-    let mut turns: usize = 512;
-    while turns > 0 {
+    for _ in 0..BLOCK {
         if len >= block.len() {
-            return Pulled { len, failed: false };
+            break;
         }
-        len += match reader.read(&mut block[len..]) {
-            Ok(0) => return Pulled { len, failed: false },
-            Ok(got) => got,
-            Err(_) => return Pulled { len, failed: true },
-        };
-        turns -= 1;
+        let got = reader.read(&mut block[len..])?;
+        if got == 0 {
+            break;
+        }
+        len += got;
     }
-    Pulled { len, failed: false }
+    Ok(len)
 }
 
 // How a log ended: its trace up to there, the refusal or 0 and the number of the block that it is of, and whether a read failed before the end.
@@ -57,18 +49,10 @@ pub struct LogEnd {
 fn end_log(t: Trace, block: u32) -> LogEnd
     ensures { (result.failed ≡ false) × (outcome result.trace.number result.trace.setup result.refusal result.block ≡ ended block t.number t.setup) }
 {
-    let setup = t.setup;
-    if setup.ready {
-        return LogEnd {
-            trace: t,
-            refusal: 0,
-            block,
-            failed: false,
-        };
-    }
+    let refusal = if t.setup.ready { 0 } else { NOT_READABLE };
     LogEnd {
         trace: t,
-        refusal: NOT_READABLE,
+        refusal,
         block,
         failed: false,
     }
@@ -92,37 +76,29 @@ fn run(stdin: Stdin, t: Trace, block: &mut [u8], out: &mut [u8]) -> LogEnd
     ensures { Ends 0 t.number t.setup (outcome result.trace.number result.trace.setup result.refusal result.block) result.failed }
 {
     let mut e = t;
-    let mut k: u32 = 0;
-    while k <= BLOCKS {
-        let p = pull_block(stdin, block);
-        let n = p.len;
-        if p.failed {
+    for k in 0..=BLOCKS {
+        let Ok(n) = pull_block(stdin, block) else {
             return cut_off(e, k);
-        }
+        };
         if n == 0 {
             return end_log(e, k);
         }
-        let setup = e.setup;
-        let b = play_block(setup, &block[..n], k);
-        let refusal = b.refusal;
-        if refusal != 0 {
+        let b = play_block(e.setup, &block[..n], k);
+        if b.refusal != 0 {
             return LogEnd {
                 trace: e,
-                refusal,
+                refusal: b.refusal,
                 block: k,
                 failed: false,
             };
         }
         let shown = show_block(e, &block[..n], out);
-        let after = b.setup;
         e = Trace {
-            number: shown.number,
-            at: shown.at,
-            setup: after,
+            setup: b.setup,
+            ..shown
         };
-        k += 1;
     }
-    cut_off(e, k)
+    cut_off(e, BLOCKS + 1)
 }
 
 // The last line of the trace, which stands there only if the log was read to its end.
@@ -148,7 +124,13 @@ pub fn play(stdin: Stdin) {
     let mut out = page_room();
     let t = begin(&mut out);
     let r = run(stdin, t, &mut block, &mut out);
-    let last = r.trace;
-    let e = close_log(&mut out, last.at, last.number, r.refusal, r.block, r.failed);
+    let e = close_log(
+        &mut out,
+        r.trace.at,
+        r.trace.number,
+        r.refusal,
+        r.block,
+        r.failed,
+    );
     finish(e, &out);
 }

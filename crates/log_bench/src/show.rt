@@ -8,7 +8,7 @@ ghost use Rattle.log_bench.specs.Shown.{record_reply, Turns, Shows};
 
 use bench::trace::Trace;
 use bench_line::answer::put_answer;
-use log_blocks::{Found, record_at};
+use log_blocks::record_at;
 use log_play::record::play_record;
 use script::trace::bump;
 use text::{least, put_byte, put_decimal};
@@ -20,19 +20,16 @@ fn number_record(t: Trace, kind: u8, seconds: u32, octets: &[u8], out: &mut [u8]
     ensures { Adds (page out.old t.at) (bumped t.number) (record_reply (bumped t.number) t.setup (rec kind seconds octets.now)) result.number result.setup (page out.new result.at) }
 {
     let number = bump(t.number);
-    let setup = t.setup;
-    let s = play_record(setup, kind, seconds, octets);
-    let said = s.said;
+    let s = play_record(t.setup, kind, seconds, octets);
     let n = least(s.came, octets.len());
     let a = put_decimal(out, t.at, number);
     let b = put_byte(out, a, 32);
-    let e = put_answer(out, b, said, &octets[..n]);
+    let e = put_answer(out, b, s.said, &octets[..n]);
     let at = put_byte(out, e, 10);
-    let next = s.setup;
     Trace {
         number,
         at,
-        setup: next,
+        setup: s.setup,
     }
 }
 
@@ -48,17 +45,17 @@ fn add_record(t: Trace, kind: u8, seconds: u32, octets: &[u8], out: &mut [u8]) -
 fn turn_page(t: Trace, out: &[u8]) -> Trace
     ensures { Turns t result }
 {
-    let at = t.at;
-    if at < FULL {
+    if t.at < FULL {
         return t;
     }
-    finish(Ended { at, failed: false }, out);
-    let setup = t.setup;
-    Trace {
-        number: t.number,
-        at: 0,
-        setup,
-    }
+    finish(
+        Ended {
+            at: t.at,
+            failed: false,
+        },
+        out,
+    );
+    Trace { at: 0, ..t }
 }
 
 // The lines of a block that is good.
@@ -68,27 +65,10 @@ pub(crate) fn show_block(t: Trace, block: &[u8], out: &mut [u8]) -> Trace
 {
     let mut e = t;
     let mut at: usize = 6;
-    while at <= 510 {
-        let f = record_at(block, at);
-        match f {
-            Found::Record {
-                kind,
-                seconds,
-                start,
-                len: _,
-                next,
-            } => {
-                e = turn_page(e, out);
-                e = add_record(e, kind, seconds, &block[start..next], out);
-                at = next;
-            }
-            Found::End => {
-                return e;
-            }
-            Found::Unreadable => {
-                return e;
-            }
-        }
+    while let Ok(Some(r)) = record_at(block, at) {
+        e = turn_page(e, out);
+        e = add_record(e, r.kind, r.seconds, &block[r.start..r.next], out);
+        at = r.next;
     }
     e
 }

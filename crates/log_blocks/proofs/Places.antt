@@ -12,39 +12,38 @@ use Rattle.octets.specs.Octets.{word_at, pair_at}
 use Rattle.octets.specs.laws.Runs.{drop-take}
 use Rattle.log_blocks.specs.Log.{one, none, cut}
 use Rattle.log_blocks.specs.Record.{rec, readable, rec_first}
-use Rattle.log_blocks.specs.Places.{end_of, found_at, from, seen}
-use Rattle.log_blocks.specs.declared.Found.TheVariants.{Record, End, Unreadable}
+use Rattle.log_blocks.specs.Places.{at_record, at_end, unreadable, end_of, found_at, from, seen}
 
-pub at_other : (b : List ℕ) (at : ℕ) → (length b ≡ 512 → ⊥) → Unreadable ≡ found_at b at
+pub at_other : (b : List ℕ) (at : ℕ) → (length b ≡ 512 → ⊥) → unreadable ≡ found_at b at
 unfolding found_at
 at_other b at h = rw (ne_eqb _ _ h)
 
 module _ (b : List ℕ) (at m : ℕ) (h : length b ≡ 512) (is : m ≡ pair_at b 4) where
-  pub at-over : 510 < 6 + m → Unreadable ≡ found_at b at
+  pub at-over : 510 < 6 + m → unreadable ≡ found_at b at
   unfolding found_at end_of
   at-over k = rw (eq-eqb _ _ h, ← is, lt-leb (6 + m) 510 k)
 
   module _ (k : 6 + m ≤ 510) where
-    pub at-end : 6 + m ≤ at → End ≡ found_at b at
+    pub at-end : 6 + m ≤ at → at_end ≡ found_at b at
     unfolding found_at end_of
     at-end l = rw (eq-eqb _ _ h, ← is, le-leb (6 + m) 510 k, le-leb (6 + m) at l)
 
     module _ (l : at < 6 + m) where
-      pub at_cut : 6 + m < at + 6 → Unreadable ≡ found_at b at
+      pub at_cut : 6 + m < at + 6 → unreadable ≡ found_at b at
       unfolding found_at end_of
       at_cut x = rw (eq-eqb _ _ h, ← is, le-leb (6 + m) 510 k, lt-leb (6 + m) at l, lt-leb (at + 6) (6 + m) x)
 
       module _ (x : at + 6 ≤ 6 + m) (n : ℕ) (e : n ≡ get_or b (at + 5) 0) where
-        pub at_long : 129 < n → Unreadable ≡ found_at b at
+        pub at_long : 129 < n → unreadable ≡ found_at b at
         unfolding found_at end_of
         at_long y = rw (eq-eqb _ _ h, ← is, le-leb (6 + m) 510 k, lt-leb (6 + m) at l, le-leb (at + 6) (6 + m) x, ← e, lt-leb n 129 y)
 
         module _ (y : n ≤ 129) where
-          pub at-past : 6 + m < at + 6 + n → Unreadable ≡ found_at b at
+          pub at-past : 6 + m < at + 6 + n → unreadable ≡ found_at b at
           unfolding found_at end_of
           at-past z = rw (eq-eqb _ _ h, ← is, le-leb (6 + m) 510 k, lt-leb (6 + m) at l, le-leb (at + 6) (6 + m) x, ← e, le-leb n 129 y, lt-leb (at + 6 + n) (6 + m) z)
 
-          pub at-record : at + 6 + n ≤ 6 + m → Record (get_or b at 0) (word_at b (at + 1)) (at + 6) n (at + 6 + n) ≡ found_at b at
+          pub at-record : at + 6 + n ≤ 6 + m → at_record (get_or b at 0) (word_at b (at + 1)) (at + 6) n (at + 6 + n) ≡ found_at b at
           unfolding found_at end_of
           at-record z = rw (eq-eqb _ _ h, ← is, le-leb (6 + m) 510 k, lt-leb (6 + m) at l, le-leb (at + 6) (6 + m) x, ← e, le-leb n 129 y, le-leb (at + 6 + n) (6 + m) z)
 

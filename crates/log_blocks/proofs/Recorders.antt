@@ -14,7 +14,8 @@ use Rattle.log_blocks.specs.Log.{All, pack_from, pack, held_from, held}
 use Rattle.log_blocks.specs.Record.{Rec, Good, rec_octets, form_one}
 use Rattle.log_blocks.specs.Tapes.{tape, written, fitting, appended_to, finished_to, Recorder, recorder, turned, note_by, note_all, log_of}
 use Rattle.log_blocks.specs.declared.Tape.{Tape}
-use Rattle.log_blocks.specs.declared.Appended.{Appended}
+use Rattle.log_blocks.specs.declared.NotWritten.{NotWritten}
+use Rattle.std.specs.Prelude.{Result}
 use Rattle.log_blocks.proofs.Blocks.{block-long}
 use Rattle.log_blocks.proofs.Packs.{packs-here, packs-next}
 use Rattle.log_blocks.proofs.Seals.{Fits, fitting-is, no_room, no_more, room, finished-is}
@@ -98,16 +99,16 @@ module _ (d : Recorder) (s : Sane d) (r : Rec) where
       recorder (tape d.at.number (d.at.used + len)) (appended_to d.at d.block r) d.done
 
   note-fits : d.at.used + len ≤ 504 → (rs : List Rec) → note_all d (r ∷ rs) ≡ note_all following rs
-  note-fits k rs = ap (λ (a : Appended). note_by a d r (λ (e : Recorder). note_all e rs)) (sym (room d.at d.block r (fit d s) k).answer_is)
+  note-fits k rs = ap (λ (a : Result Tape NotWritten). note_by a d r (λ (e : Recorder). note_all e rs)) (sym (room d.at d.block r (fit d s) k).answer_is)
 
   fits-sane : d.at.used + len ≤ 504 → Sane following
   fits-sane k = record { some = omega arith; fits = record { long = appended-long d.block d.at r s.fits k; room = k; number = s.fits.number } }
 
   note-full : 504 < d.at.used + len → d.at.number + 1 < BLOCKS → (rs : List Rec) → note_all d (r ∷ rs) ≡ note_all (turned d r) rs
-  note-full k l rs = ap (λ (a : Appended). note_by a d r (λ (e : Recorder). note_all e rs)) (sym (no_room d.at d.block r (fit d s) k l).answer_is)
+  note-full k l rs = ap (λ (a : Result Tape NotWritten). note_by a d r (λ (e : Recorder). note_all e rs)) (sym (no_room d.at d.block r (fit d s) k l).answer_is)
 
   note-ended : 504 < d.at.used + len → BLOCKS ≤ d.at.number + 1 → (rs : List Rec) → note_all d (r ∷ rs) ≡ d
-  note-ended k l rs = ap (λ (a : Appended). note_by a d r (λ (e : Recorder). note_all e rs)) (sym (no_more d.at d.block r (fit d s) k l).answer_is)
+  note-ended k l rs = ap (λ (a : Result Tape NotWritten). note_by a d r (λ (e : Recorder). note_all e rs)) (sym (no_more d.at d.block r (fit d s) k l).answer_is)
 
   abbrev fresh : Tape
   fresh = tape (d.at.number + 1) 0
@@ -198,6 +199,6 @@ recorder-packs (r ∷ rs) b h g =
     let f : Fits t (length b) = record { long = h; room = omega arith; number = omega arith } in
     let d = recorder (tape 0 (0 + n)) (appended_to t b r) [] in
     let s : Sane d = record { some = omega arith; fits = record { long = appended-long b t r f k; room = k; number = omega arith } } in
-    ap (λ (a : Appended). log_of (note_by a (recorder t b []) r (λ (e : Recorder). note_all e rs))) (sym (room t b r (fitting-is t (length b) f) k).answer_is)
+    ap (λ (a : Result Tape NotWritten). log_of (note_by a (recorder t b []) r (λ (e : Recorder). note_all e rs))) (sym (room t b r (fitting-is t (length b) f) k).answer_is)
     ∙ notes-pack rs d s g.1
     ∙ ap (λ (x : List ℕ). pack_from form_one 0 x (held_from form_one 0 x rs)) (written-more b t r f k 0 ∙ ap (λ (x : List ℕ). x ++ rec_octets r) (none_written b))

@@ -10,14 +10,15 @@ use lib.Dec.{ltb}
 use lib.ListN.{length, take, drop, set, length-drop, drop_of_length-le}
 use lib.Seq.{sets, sets-eq, length-sets, length-take-le, take_at, drop_at, take-add}
 use Rattle.text.proofs.Laws.{both_true}
+use Rattle.link.specs.Tests.{pick}
 use Rattle.octets.specs.Octets.{quad, pair, zeros}
 use Rattle.octets.specs.laws.Runs.{length-zeros, sets-append}
 use Rattle.log_blocks.specs.Block.{BLOCKS, check_of, front_of, block_of}
 use Rattle.log_blocks.specs.Record.{Rec, rec, rec_octets}
-use Rattle.log_blocks.specs.Tapes.{tape, written, fitting, appended, appended_to, finished, finished_to, Appends, Finishes}
+use Rattle.log_blocks.specs.Tapes.{tape, written, fitting, follows, appended, appended_to, finished, finished_to, Appends, Finishes}
 use Rattle.log_blocks.specs.declared.Tape.{Tape}
-use Rattle.log_blocks.specs.declared.Appended.TheVariants.{Wrote, Full, Ended, Refused}
-use Rattle.log_blocks.specs.declared.Finished.TheVariants.{Next, Last, Unfit}
+use Rattle.log_blocks.specs.declared.NotWritten.TheVariants.{Full, Ended, Refused}
+use Rattle.std.specs.Prelude.{Some, None, Ok, Err}
 use Rattle.log_blocks.proofs.Blocks.{front_long}
 
 -- ---- a record's octets, part by part
@@ -66,22 +67,22 @@ unfolding fitting
 fitting-is t size f = rw (eq-eqb _ _ f.long, le-leb _ 504 f.room, lt-ltb _ BLOCKS f.number)
 
 -- ---- into a block, or not
-pub no_block : (t : Tape) (b : List ℕ) (r : Rec) → fitting t (length b) ≡ false → Appends t b r Refused b
+pub no_block : (t : Tape) (b : List ℕ) (r : Rec) → fitting t (length b) ≡ false → Appends t b r (Err Refused) b
 unfolding appended appended_to
 no_block t b r h = record { answer_is = rw h; block_is = rw h }
 
 module _ (t : Tape) (b : List ℕ) (r : Rec) (h : fitting t (length b) ≡ true) where
   module _ (k : 504 < t.used + length (rec_octets r)) where
-    pub no_room : t.number + 1 < BLOCKS → Appends t b r Full b
+    pub no_room : t.number + 1 < BLOCKS → Appends t b r (Err Full) b
     unfolding appended appended_to
     no_room l = record { answer_is = rw (h, lt-leb _ 504 k, lt-ltb _ BLOCKS l); block_is = rw (h, lt-leb _ 504 k) }
 
-    pub no_more : BLOCKS ≤ t.number + 1 → Appends t b r Ended b
+    pub no_more : BLOCKS ≤ t.number + 1 → Appends t b r (Err Ended) b
     unfolding appended appended_to
     no_more l = record { answer_is = rw (h, lt-leb _ 504 k, le-ltb _ BLOCKS l); block_is = rw (h, lt-leb _ 504 k) }
 
   pub room : t.used + length (rec_octets r) ≤ 504
-      → Appends t b r (Wrote (tape t.number (t.used + length (rec_octets r)))) (sets b (6 + t.used) (rec_octets r))
+      → Appends t b r (Ok (tape t.number (t.used + length (rec_octets r)))) (sets b (6 + t.used) (rec_octets r))
   unfolding appended appended_to
   room k = record { answer_is = rw (h, le-leb _ 504 k); block_is = rw (h, le-leb _ 504 k) }
 
@@ -142,18 +143,14 @@ module _ (b : List ℕ) (n u : ℕ) (h : length b ≡ 512) (k : u ≤ 504) where
       ∙ ap (λ (x : List ℕ). x ++ pair c) front-there
       ∙ ap (λ (x : ℕ). front_of n p ++ pair x) (e ∙ ap check_of front-there)
 
-pub not-closed : (t : Tape) (b : List ℕ) → fitting t (length b) ≡ false → Finishes t b Unfit b
+pub not-closed : (t : Tape) (b : List ℕ) → fitting t (length b) ≡ false → Finishes t b (Err (record {})) b
 unfolding finished finished_to
 not-closed t b h = record { answer_is = rw h; block_is = rw h }
 
 module _ (t : Tape) (b : List ℕ) (h : fitting t (length b) ≡ true) where
-  pub closed : t.number + 1 < BLOCKS → Finishes t b (Next (tape (t.number + 1) 0)) (block_of t.number (take t.used (drop 6 b)))
+  pub closed : Finishes t b (Ok (pick (follows t) (Some (tape (t.number + 1) 0)) None)) (block_of t.number (take t.used (drop 6 b)))
   unfolding finished finished_to written
-  closed l = record { answer_is = rw (h, lt-ltb _ BLOCKS l); block_is = rw h }
-
-  pub closed-last : BLOCKS ≤ t.number + 1 → Finishes t b Last (block_of t.number (take t.used (drop 6 b)))
-  unfolding finished finished_to written
-  closed-last l = record { answer_is = rw (h, le-ltb _ BLOCKS l); block_is = rw h }
+  closed = record { answer_is = rw h; block_is = rw h }
 
   pub finished-is : finished_to t b ≡ block_of t.number (written t b)
   unfolding finished_to

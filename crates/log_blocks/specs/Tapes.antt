@@ -1,14 +1,13 @@
 -- The recorder: a tape by value says how far a lent block is written.
-use Rattle.std.specs.Prelude.{Bool, ◌≡◌, List, [], ◌∷◌, ◌++◌, ℕ, ◌+◌, eqb, leb, ltb, length, take, drop}
+use Rattle.std.specs.Prelude.{Bool, Option, Some, None, Result, Ok, Err, ◌≡◌, List, [], ◌∷◌, ◌++◌, ℕ, ◌+◌, eqb, leb, ltb, length, take, drop}
 use Rattle.std.proofs.lemmas.List.Edits.{sets}
 use Rattle.link.specs.Tests.{both, pick}
 use Rattle.log_blocks.specs.Block.{BLOCK, ROOM, BLOCKS, block_of}
 use Rattle.log_blocks.specs.Record.{Rec, rec_octets}
 use Rattle.log_blocks.specs.declared.Tape.{Tape}
-use Rattle.log_blocks.specs.declared.Appended.{Appended}
-use Rattle.log_blocks.specs.declared.Appended.TheVariants.{Wrote, Full, Ended, Refused}
-use Rattle.log_blocks.specs.declared.Finished.{Finished}
-use Rattle.log_blocks.specs.declared.Finished.TheVariants.{Next, Last, Unfit}
+use Rattle.log_blocks.specs.declared.NotWritten.{NotWritten}
+use Rattle.log_blocks.specs.declared.NotWritten.TheVariants.{Full, Ended, Refused}
+use Rattle.log_blocks.specs.declared.Unfit.{Unfit}
 
 abbrev pub tape : ℕ → ℕ → Tape
 tape n u = record { number = n; used = u }
@@ -26,28 +25,28 @@ abbrev pub follows : Tape → Bool
 follows t = ltb (t.number + 1) BLOCKS
 
 -- "A record that doesn't fit opens the next block"; where none may follow, the log has ended and stays
-unfoldable pub appended : Tape → List ℕ → Rec → Appended
+unfoldable pub appended : Tape → List ℕ → Rec → Result Tape NotWritten
 appended t b r =
     let u = t.used + length (rec_octets r) in
-    pick (fitting t (length b)) (pick (leb u ROOM) (Wrote (tape t.number u)) (pick (follows t) Full Ended)) Refused
+    pick (fitting t (length b)) (pick (leb u ROOM) (Ok (tape t.number u)) (Err (pick (follows t) Full Ended))) (Err Refused)
 
 -- a record that is not written leaves the block as it was
 unfoldable pub appended_to : Tape → List ℕ → Rec → List ℕ
 appended_to t b r =
     pick (fitting t (length b)) (pick (leb (t.used + length (rec_octets r)) ROOM) (sets b (6 + t.used) (rec_octets r)) b) b
 
-pub record Appends (t : Tape) (b : List ℕ) (r : Rec) (answer : Appended) (after : List ℕ) : Type 0 where
+pub record Appends (t : Tape) (b : List ℕ) (r : Rec) (answer : Result Tape NotWritten) (after : List ℕ) : Type 0 where
   pub answer_is : answer ≡ appended t b r
   pub block_is : after ≡ appended_to t b r
 
 -- a block that is finished, and the tape of the next one
-unfoldable pub finished : Tape → ℕ → Finished
-finished t size = pick (fitting t size) (pick (follows t) (Next (tape (t.number + 1) 0)) Last) Unfit
+unfoldable pub finished : Tape → ℕ → Result (Option Tape) Unfit
+finished t size = pick (fitting t size) (Ok (pick (follows t) (Some (tape (t.number + 1) 0)) None)) (Err (record {}))
 
 unfoldable pub finished_to : Tape → List ℕ → List ℕ
 finished_to t b = pick (fitting t (length b)) (block_of t.number (written t b)) b
 
-pub record Finishes (t : Tape) (b : List ℕ) (answer : Finished) (after : List ℕ) : Type 0 where
+pub record Finishes (t : Tape) (b : List ℕ) (answer : Result (Option Tape) Unfit) (after : List ℕ) : Type 0 where
   pub answer_is : answer ≡ finished t (length b)
   pub block_is : after ≡ finished_to t b
 
@@ -67,11 +66,11 @@ turned d r =
     recorder (tape (d.at.number + 1) (length (rec_octets r))) (appended_to (tape (d.at.number + 1) 0) b r) (d.done ++ (b ∷ []))
 
 -- on from what `append` answers; a log that has ended takes no record more, so that what it has is played as it was called
-abbrev pub note_by : Appended → Recorder → Rec → (Recorder → Recorder) → Recorder
-note_by (Wrote t) d r f = f (recorder t (appended_to d.at d.block r) d.done)
-note_by Full d r f = f (turned d r)
-note_by Ended d r f = d
-note_by Refused d r f = d
+abbrev pub note_by : Result Tape NotWritten → Recorder → Rec → (Recorder → Recorder) → Recorder
+note_by (Ok t) d r f = f (recorder t (appended_to d.at d.block r) d.done)
+note_by (Err Full) d r f = f (turned d r)
+note_by (Err Ended) d r f = d
+note_by (Err Refused) d r f = d
 
 abbrev pub note_all : Recorder → List Rec → Recorder
 note_all d [] = d

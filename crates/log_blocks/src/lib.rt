@@ -25,48 +25,40 @@ pub const BLOCKS: u32 = 16777216;
 const MODULUS: u32 = 65521;
 
 // The block that is being written: its number, and how many octets of payload it has.
-#[derive(Drop)]
-#[derive(Clone, Copy)]
+#[derive(Clone, Copy, PartialEq, Eq, Debug)]
 pub struct Tape {
     pub number: u32,
     pub used: usize,
 }
 
-#[derive(Drop)]
-pub enum Appended {
-    // the record is in the block
-    Wrote(Tape),
-    // it is not: the block is to be finished first
+// Why a record is not in a block.
+#[derive(Clone, Copy, PartialEq, Eq, Debug)]
+pub enum NotWritten {
+    // the block is to be finished first
     Full,
-    // it is not, and no block may follow
+    // no block may follow
     Ended,
     // not a block of this tape
     Refused,
 }
 
-#[derive(Drop)]
-pub enum Finished {
-    // the tape of the next block
-    Next(Tape),
-    // no block may follow
-    Last,
-    // not a block of this tape
-    Unfit,
+// Not a block of this tape.
+#[derive(Clone, Copy, PartialEq, Eq, Debug)]
+pub struct Unfit;
+
+// A record in a block: its data are the octets from start on, and the next place is behind them.
+#[derive(Clone, Copy, PartialEq, Eq, Debug)]
+pub struct Found {
+    pub kind: u8,
+    pub seconds: u32,
+    pub start: usize,
+    pub len: usize,
+    pub next: usize,
 }
 
-#[derive(Drop)]
-pub enum Found {
-    // its data are the octets from start on, and the next place is behind them
-    Record {
-        kind: u8,
-        seconds: u32,
-        start: usize,
-        len: usize,
-        next: usize,
-    },
-    End,
-    Unreadable,
-}
+// Neither a record nor the payload's end.
+#[derive(Clone, Copy, PartialEq, Eq, Debug)]
+pub struct Unreadable;
 
 // ---- the check
 
@@ -75,12 +67,9 @@ fn weigh(s: &[u8]) -> u32
     ensures { (result ≡ weighted 1 s.now) × (result ≤ 66325500) }
 {
     let mut sum: u32 = 0;
-    let mut i: usize = 0;
-    while i < s.len() {
-        let w = octet(s, i) as u32;
+    for (i, &o) in s.iter().enumerate() {
         let place = (i + 1) as u32;
-        sum += w * place;
-        i += 1;
+        sum += u32::from(o) * place;
     }
     sum
 }
@@ -98,14 +87,7 @@ fn check_of(s: &[u8]) -> u16
 pub fn all_zero(s: &[u8]) -> bool
     ensures { result ≡ all_zero s.now }
 {
-    let mut i: usize = 0;
-    while i < s.len() {
-        if s[i] != 0 {
-            return false;
-        }
-        i += 1;
-    }
-    true
+    s.iter().all(|&o| o == 0)
 }
 
 fn judge_length(block: &[u8]) -> u8
@@ -146,39 +128,39 @@ pub fn check_block(block: &[u8], number: u32) -> u8
     judge_length(block)
 }
 
-// What stands at a place of a block; the first place is 6.
-pub fn record_at(block: &[u8], at: usize) -> Found
+// The record at a place of a block, none at the payload's end; the first place is 6.
+pub fn record_at(block: &[u8], at: usize) -> Result<Option<Found>, Unreadable>
     ensures { result ≡ found_at block.now at }
 {
     if block.len() != BLOCK {
-        return Found::Unreadable;
+        return Err(Unreadable);
     }
     let end = 6 + (read_pair(block, 4) as usize);
     if end > 510 {
-        return Found::Unreadable;
+        return Err(Unreadable);
     }
     if end <= at {
-        return Found::End;
+        return Ok(None);
     }
     let start = at + 6;
     if start > end {
-        return Found::Unreadable;
+        return Err(Unreadable);
     }
     let len = octet(block, at + 5) as usize;
     if len > KEPT {
-        return Found::Unreadable;
+        return Err(Unreadable);
     }
     let next = start + len;
     if next > end {
-        return Found::Unreadable;
+        return Err(Unreadable);
     }
-    Found::Record {
+    Ok(Some(Found {
         kind: octet(block, at),
         seconds: read_word(block, at + 1),
         start,
         len,
         next,
-    }
+    }))
 }
 
 // ---- recording
@@ -187,13 +169,7 @@ pub fn record_at(block: &[u8], at: usize) -> Found
 pub fn fits(number: u32, used: usize, size: usize) -> bool
     ensures { result ≡ fitting (tape number used) size }
 {
-    if size != BLOCK {
-        return false;
-    }
-    if used > ROOM {
-        return false;
-    }
-    number < BLOCKS
+    size == BLOCK && used <= ROOM && number < BLOCKS
 }
 
 fn put_record(out: &mut [u8], at: usize, kind: u8, seconds: u32, octets: &[u8])
@@ -208,24 +184,28 @@ fn put_record(out: &mut [u8], at: usize, kind: u8, seconds: u32, octets: &[u8])
 }
 
 // Of longer data the first 129 octets are kept. A record that is not written leaves the block as it was.
-pub fn append(t: Tape, block: &mut [u8], kind: u8, seconds: u32, octets: &[u8]) -> Appended
+pub fn append(
+    t: Tape,
+    block: &mut [u8],
+    kind: u8,
+    seconds: u32,
+    octets: &[u8],
+) -> Result<Tape, NotWritten>
     ensures { Appends t block.old (noted (rec kind seconds octets.now)) result block.new }
 {
-    let number = t.number;
-    let used = t.used;
-    if !fits(number, used, block.len()) {
-        return Appended::Refused;
+    if !fits(t.number, t.used, block.len()) {
+        return Err(NotWritten::Refused);
     }
     let n = least(KEPT, octets.len());
-    let more = used + (6 + n);
-    if more > ROOM {
-        if number + 1 < BLOCKS {
-            return Appended::Full;
+    let used = t.used + (6 + n);
+    if used > ROOM {
+        if t.number + 1 < BLOCKS {
+            return Err(NotWritten::Full);
         }
-        return Appended::Ended;
+        return Err(NotWritten::Ended);
     }
-    put_record(block, 6 + used, kind, seconds, &octets[..n]);
-    Appended::Wrote(Tape { number, used: more })
+    put_record(block, 6 + t.used, kind, seconds, &octets[..n]);
+    Ok(Tape { used, ..t })
 }
 
 fn seal(block: &mut [u8], number: u32, used: usize)
@@ -239,21 +219,14 @@ fn seal(block: &mut [u8], number: u32, used: usize)
     put_pair(block, 510, check);
 }
 
-// Writes zeros, length, number and check: the block is then one of the log.
-pub fn finish(t: Tape, block: &mut [u8]) -> Finished
+// Writes zeros, length, number and check: the block is then one of the log. Its answer is the tape of the next block, none where no block may follow.
+pub fn finish(t: Tape, block: &mut [u8]) -> Result<Option<Tape>, Unfit>
     ensures { Finishes t block.old result block.new }
 {
-    let number = t.number;
-    let used = t.used;
-    if !fits(number, used, block.len()) {
-        return Finished::Unfit;
+    if !fits(t.number, t.used, block.len()) {
+        return Err(Unfit);
     }
-    seal(block, number, used);
-    if number + 1 < BLOCKS {
-        return Finished::Next(Tape {
-            number: number + 1,
-            used: 0,
-        });
-    }
-    Finished::Last
+    seal(block, t.number, t.used);
+    let number = t.number + 1;
+    Ok((number < BLOCKS).then_some(Tape { number, used: 0 }))
 }

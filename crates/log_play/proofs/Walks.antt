@@ -16,31 +16,38 @@ use Rattle.log_blocks.specs.Block.{judged, payload}
 use Rattle.log_blocks.specs.Log.{Read, got, bad, One, one, none, cut, onto, then, records_in, records_of, read_block, unless}
 use Rattle.log_blocks.specs.Record.{Rec, rec, KEPT, rec_first, form_one}
 use Rattle.log_blocks.specs.Play.{Step, went, refused, Trace, behind, stepped, with_records, play}
-use Rattle.log_blocks.specs.Places.{end_of, found_at, from}
-use Rattle.log_blocks.specs.declared.Found.TheVariants.{Record, End, Unreadable}
+use Rattle.log_blocks.specs.declared.Found.{Found}
+use Rattle.std.specs.Prelude.{Some, None, Ok, Err}
+use Rattle.log_blocks.specs.Places.{Look, at_record, at_end, unreadable, end_of, found_at, from}
 use Rattle.log_blocks.proofs.Walks.{walk_end, walk-unreadable, walk_more, unread, all_read}
 use Rattle.log_play.specs.Steps.{step_of, came_with}
 use Rattle.log_play.specs.declared.block.Played.{Played}
 use Rattle.log_play.specs.declared.record.Stepped.{Stepped}
 use Rattle.log_play.specs.Plays.{step_in, stepped_by, played_in, play_block}
 
+-- a part of what was found
+abbrev part : (Found → ℕ) → Look → ℕ
+part f (Ok (Some y)) = f y
+part f (Ok None) = 0
+part f (Err u) = 0
+
 -- where a record's data stands, and that it is short
-pub data-place : (b : List ℕ) (at k s a l x : ℕ) → found_at b at ≡ Record k s a l x → (x ≡ a + l) × (l ≤ KEPT)
+pub data-place : (b : List ℕ) (at : ℕ) (r : Found) → found_at b at ≡ Ok (Some r) → (r.next ≡ r.start + r.len) × (r.len ≤ KEPT)
 unfolding found_at
-data-place b at k s a l x = go (eqb (length b) 512) (leb (end_of b) 510) (leb (end_of b) at) (leb (at + 6) (end_of b)) (leb n 129) (leb (at + 6 + n) (end_of b)) refl
+data-place b at r = go (eqb (length b) 512) (leb (end_of b) 510) (leb (end_of b) at) (leb (at + 6) (end_of b)) (leb n 129) (leb (at + 6 + n) (end_of b)) refl
   where
     n : ℕ
     n = get_or b (at + 5) 0
 
-    unread-not : Unreadable ≡ Record k s a l x → ⊥
+    unread-not : unreadable ≡ Ok (Some r) → ⊥
     unread-not e = let z : ◌≡◌ {A = ℕ} 0 1 = cc in omega arith
 
-    no_end : End ≡ Record k s a l x → ⊥
+    no_end : at_end ≡ Ok (Some r) → ⊥
     no_end e = let z : ◌≡◌ {A = ℕ} 0 1 = cc in omega arith
 
     go : (c d f g h i : Bool) → leb n KEPT ≡ h
-        → pick c (pick d (pick f End (pick g (pick h (pick i (Record (get_or b at 0) (word_at b (at + 1)) (at + 6) n (at + 6 + n)) Unreadable) Unreadable) Unreadable)) Unreadable) Unreadable ≡ Record k s a l x
-        → (x ≡ a + l) × (l ≤ KEPT)
+        → pick c (pick d (pick f at_end (pick g (pick h (pick i (at_record (get_or b at 0) (word_at b (at + 1)) (at + 6) n (at + 6 + n)) unreadable) unreadable) unreadable)) unreadable) unreadable ≡ Ok (Some r)
+        → (r.next ≡ r.start + r.len) × (r.len ≤ KEPT)
     go false d f g h i j e = absurd (unread-not e)
     go true false f g h i j e = absurd (unread-not e)
     go true true true g h i j e = absurd (no_end e)
@@ -48,10 +55,10 @@ data-place b at k s a l x = go (eqb (length b) 512) (leb (end_of b) 510) (leb (e
     go true true false true false i j e = absurd (unread-not e)
     go true true false true true false j e = absurd (unread-not e)
     go true true false true true true j e =
-        let p : at + 6 ≡ a = cc in
-        let q : n ≡ l = cc in
-        let r : at + 6 + n ≡ x = cc in
-        (sym r ∙ omega (arith, p, q), omega (arith, q, leb-true n KEPT j))
+        let p : at + 6 ≡ r.start = ap (part (λ y. y.start)) e in
+        let q : n ≡ r.len = ap (part (λ y. y.len)) e in
+        let w : at + 6 + n ≡ r.next = ap (part (λ y. y.next)) e in
+        (sym w ∙ omega (arith, p, q), omega (arith, q, leb-true n KEPT j))
 
 -- a reading is refused with 20 alone
 onto-bad : (r : Rec) (y : Read (List Rec)) (e : ℕ) → onto r y ≡ bad e → y ≡ bad e
@@ -85,37 +92,37 @@ module _ (b : List ℕ) (at : ℕ) (h : length b ≡ 512) (room : end_of b ≤ 5
   abbrev pub rest : ℕ → Setup → Played
   rest x t = played_in o (with_records (records_of form_one (from b x)) (play step_of t))
 
-  pub turn_end : found_at b at ≡ End → rest at s ≡ record { refusal = 0; setup = s }
+  pub turn_end : found_at b at ≡ at_end → rest at s ≡ record { refusal = 0; setup = s }
   unfolding played_in
   turn_end e = ap (λ (y : Read (List Rec)). played_in o (with_records y (play step_of s))) (walk_end b at h room e)
 
-  pub turn-unreadable : found_at b at ≡ Unreadable → rest at s ≡ played_in o (bad NOT-READABLE)
+  pub turn-unreadable : found_at b at ≡ unreadable → rest at s ≡ played_in o (bad NOT-READABLE)
   turn-unreadable e = ap (λ (y : Read (List Rec)). played_in o (with_records y (play step_of s))) (walk-unreadable b at h room e)
 
-  module _ (k n a l x : ℕ) (e : found_at b at ≡ Record k n a l x) where
+  module _ (f : Found) (e : found_at b at ≡ Ok (Some f)) where
     abbrev R : Rec
-    R = rec k n (take l (drop a b))
+    R = rec f.kind f.seconds (take f.len (drop f.start b))
 
     abbrev tail : Read (List Rec)
-    tail = records_of form_one (from b x)
+    tail = records_of form_one (from b f.next)
 
     one_more : rest at s ≡ played_in o (with_records (onto R tail) (play step_of s))
     one_more =
-        ap (λ (y : Read (List Rec)). played_in o (with_records y (play step_of s))) (walk_more b at h room k n a l x e)
+        ap (λ (y : Read (List Rec)). played_in o (with_records y (play step_of s))) (walk_more b at h room f e)
 
     pub turn-refused : (stepped_by s R).went ≡ false → rest at s ≡ played_in o (bad NOT-READABLE)
     unfolding stepped_by step_in records_of
-    turn-refused f = one_more ∙ go (step_of s R) refl f tail refl
+    turn-refused q = one_more ∙ go (step_of s R) refl q tail refl
       where
         go : (z : Step Setup Answer) → step_of s R ≡ z → (step_in s (length (came_with s R)) z).went ≡ false → (y : Read (List Rec)) → tail ≡ y
             → played_in o (with_records (onto R y) (play step_of s)) ≡ played_in o (bad NOT-READABLE)
         go (went t w) i j y q = let u : ◌≡◌ {A = ℕ} 0 1 = cc in absurd (omega arith)
         go refused i j (got rs) q = rw i
-        go refused i j (bad m) q = ap (λ (u : ℕ). played_in o (bad u)) (reads-20 (length (from b x)) (from b x) m q)
+        go refused i j (bad m) q = ap (λ (u : ℕ). played_in o (bad u)) (reads-20 (length (from b f.next)) (from b f.next) m q)
 
-    pub turn-went : (stepped_by s R).went ≡ true → rest at s ≡ rest x (stepped_by s R).setup
+    pub turn-went : (stepped_by s R).went ≡ true → rest at s ≡ rest f.next (stepped_by s R).setup
     unfolding stepped_by step_in
-    turn-went f = one_more ∙ go (step_of s R) refl f tail
+    turn-went q = one_more ∙ go (step_of s R) refl q tail
       where
         go : (z : Step Setup Answer) → step_of s R ≡ z → (step_in s (length (came_with s R)) z).went ≡ true → (y : Read (List Rec))
             → played_in o (with_records (onto R y) (play step_of s)) ≡ played_in o (with_records y (play step_of (step_in s (length (came_with s R)) z).setup))
@@ -124,18 +131,18 @@ module _ (b : List ℕ) (at : ℕ) (h : length b ≡ 512) (room : end_of b ≤ 5
         go (went t w) i j (bad m) = refl
 
     -- the same of what the code gives, with the data where it stands
-    part_same : take (x - a) (drop a b) ≡ take l (drop a b)
-    part_same = let n : x - a ≡ l = omega (arith, data-place b at k n a l x e) in ap (λ (j : ℕ). take j (drop a b)) n
+    part_same : take (f.next - f.start) (drop f.start b) ≡ take f.len (drop f.start b)
+    part_same = let n : f.next - f.start ≡ f.len = omega (arith, data-place b at f e) in ap (λ (j : ℕ). take j (drop f.start b)) n
 
-    module _ (r : Stepped) (is : r ≡ stepped_by s (rec k n (take (x - a) (drop a b)))) where
+    module _ (r : Stepped) (is : r ≡ stepped_by s (rec f.kind f.seconds (take (f.next - f.start) (drop f.start b)))) where
       is-step : r ≡ stepped_by s R
-      is-step = is ∙ ap (λ (y : List ℕ). stepped_by s (rec k n y)) part_same
+      is-step = is ∙ ap (λ (y : List ℕ). stepped_by s (rec f.kind f.seconds y)) part_same
 
       pub turn-stays : r.went ≡ false → played_in o (bad NOT-READABLE) ≡ rest at s
-      turn-stays f = sym (turn-refused (ap (λ (y : Stepped). y.went) (sym is-step) ∙ f))
+      turn-stays q = sym (turn-refused (ap (λ (y : Stepped). y.went) (sym is-step) ∙ q))
 
-      pub turn-goes : r.went ≡ true → rest x r.setup ≡ rest at s
-      turn-goes f = ap (λ (y : Stepped). rest x y.setup) is-step ∙ sym (turn-went (ap (λ (y : Stepped). y.went) (sym is-step) ∙ f))
+      pub turn-goes : r.went ≡ true → rest f.next r.setup ≡ rest at s
+      turn-goes q = ap (λ (y : Stepped). rest f.next y.setup) is-step ∙ sym (turn-went (ap (λ (y : Stepped). y.went) (sym is-step) ∙ q))
 
 -- ---- a whole block
 module _ (o : Setup) (n : ℕ) (b : List ℕ) where

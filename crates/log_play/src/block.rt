@@ -9,7 +9,7 @@ ghost use Rattle.log_play.specs.Plays.{played_in, play_block};
 
 use crate::record::play_record;
 use bench::reply::Setup;
-use log_blocks::{Found, check_block, record_at};
+use log_blocks::{Unreadable, check_block, record_at};
 use refusals::NOT_READABLE;
 
 // `refusal` is 0, or 18, 19 or 20 beside the box as it was.
@@ -33,32 +33,20 @@ fn walk(b: Setup, block: &[u8]) -> Played
 {
     let mut setup = b;
     let mut at: usize = 6;
-    while at <= 510 {
-        let f = record_at(block, at);
-        match f {
-            Found::Record {
-                kind,
-                seconds,
-                start,
-                len: _,
-                next,
-            } => {
-                let s = play_record(setup, kind, seconds, &block[start..next]);
+    loop {
+        match record_at(block, at) {
+            Ok(Some(r)) => {
+                let s = play_record(setup, r.kind, r.seconds, &block[r.start..r.next]);
                 if !s.went {
                     return unplayed(b, NOT_READABLE);
                 }
                 setup = s.setup;
-                at = next;
+                at = r.next;
             }
-            Found::End => {
-                return Played { refusal: 0, setup };
-            }
-            Found::Unreadable => {
-                return unplayed(b, NOT_READABLE);
-            }
+            Ok(None) => return Played { refusal: 0, setup },
+            Err(Unreadable) => return unplayed(b, NOT_READABLE),
         }
     }
-    unplayed(b, NOT_READABLE)
 }
 
 // Block `number` of a log: the box after its records, or its refusal.

@@ -38,12 +38,10 @@ pub struct Stepped {
 fn stay(b: Setup) -> Stepped
     ensures { result ≡ stays b }
 {
-    let a = refuse(b.link, 0);
-    let said = a.said;
     Stepped {
         went: false,
         setup: b,
-        said,
+        said: refuse(b.link, 0).said,
         came: 0,
     }
 }
@@ -52,16 +50,16 @@ fn stay(b: Setup) -> Stepped
 fn accept(b: Setup, a: Answer, came: usize) -> Stepped
     ensures { result ≡ step_in b came (accepted a) }
 {
-    let said = a.said;
-    let refusal = said.refusal;
-    if refusal != 0 {
+    if a.said.refusal != 0 {
         return stay(b);
     }
-    let link = a.link;
     Stepped {
         went: true,
-        setup: Setup { ready: true, link },
-        said,
+        setup: Setup {
+            ready: true,
+            link: a.link,
+        },
+        said: a.said,
         came,
     }
 }
@@ -70,25 +68,12 @@ fn accept(b: Setup, a: Answer, came: usize) -> Stepped
 pub fn hold_record(shape: u8, seconds: u32, octets: &[u8]) -> Held
     ensures { held_in result octets.now ≡ field_in shape seconds octets.now }
 {
-    if shape == NUMBER {
-        if octets.len() != 0 {
-            return Held::Unread;
-        }
-        return Held::Number(seconds);
+    match shape {
+        NUMBER if octets.is_empty() => Held::Number(seconds),
+        HEX if seconds == 0 => Held::Octets(octets.len()),
+        ALONE if seconds == 0 && octets.is_empty() => Held::Octets(0),
+        _ => Held::Unread,
     }
-    if seconds != 0 {
-        return Held::Unread;
-    }
-    if shape == HEX {
-        return Held::Octets(octets.len());
-    }
-    if shape != ALONE {
-        return Held::Unread;
-    }
-    if octets.len() != 0 {
-        return Held::Unread;
-    }
-    Held::Octets(0)
 }
 
 // A record for a box that has its settings: the call on the box's link as a host keeps it.
@@ -115,10 +100,7 @@ fn play_call(b: Setup, kind: u8, seconds: u32, octets: &[u8]) -> Stepped
 fn is_long(n: usize) -> bool
     ensures { result ≡ settings_long n }
 {
-    if n == SETTINGS {
-        return true;
-    }
-    n == OLD_SETTINGS
+    n == SETTINGS || n == OLD_SETTINGS
 }
 
 // The settings that the data of a record spells.
@@ -138,18 +120,11 @@ fn settings_in(octets: &[u8]) -> [u32; TIMERS]
 fn open_record(b: Setup, kind: u8, seconds: u32, octets: &[u8]) -> Stepped
     ensures { result ≡ step_in b 0 (open_step (rec kind seconds octets.now)) }
 {
-    if kind != 0 {
-        return stay(b);
-    }
-    if seconds != 0 {
-        return stay(b);
-    }
-    if !is_long(octets.len()) {
+    if kind != 0 || seconds != 0 || !is_long(octets.len()) {
         return stay(b);
     }
     let o = open(settings_in(octets));
-    let link = o.link;
-    let a = refuse(link, o.refusal);
+    let a = refuse(o.link, o.refusal);
     accept(b, a, 0)
 }
 

@@ -9,8 +9,9 @@ use Rattle.text.specs.Page.{Page, page, Writes}
 use Rattle.text.proofs.Pages.{after}
 use Rattle.link.specs.Tests as link
 use Rattle.log_blocks.specs.declared.Tape.{Tape}
-use Rattle.log_blocks.specs.declared.Appended.{Appended}
-use Rattle.log_blocks.specs.declared.Appended.TheVariants.{Wrote, Full, Ended, Refused}
+use Rattle.log_blocks.specs.declared.NotWritten.{NotWritten}
+use Rattle.log_blocks.specs.declared.NotWritten.TheVariants.{Full, Ended, Refused}
+use Rattle.std.specs.Prelude.{Result, Ok, Err}
 use Rattle.log_blocks.specs.Record.{Rec, noted}
 use Rattle.log_blocks.specs.Tapes.{appended, finished_to, recorder, note_by, log_of}
 use Rattle.log_blocks.specs.Tapes as tapes
@@ -27,16 +28,16 @@ module _ (done : List (List ℕ)) where
   unfolding note_on
   note-behind d x = go (appended d.log.at d.log.block x)
     where
-      by : Desk → Appended → Desk
+      by : Desk → Result Tape NotWritten → Desk
       by k a = desk k.box (note_by a k.log x (λ (l : tapes.Recorder). l)) (ends a)
 
-      go : (a : Appended) → by (behind d) a ≡ behind (by d a)
-      go (Wrote t) = refl
-      go Full =
+      go : (a : Result Tape NotWritten) → by (behind d) a ≡ behind (by d a)
+      go (Ok t) = refl
+      go (Err Full) =
           let n = tapes.turned d.log x in
           ap (λ (l : List (List ℕ)). desk d.box (recorder n.at n.block l) false) (append_assoc done d.log.done (finished_to d.log.at d.log.block ∷ []))
-      go Ended = refl
-      go Refused = refl
+      go (Err Ended) = refl
+      go (Err Refused) = refl
 
   kept-behind : (xs : List Rec) (d : Desk) → kept_on (behind d) xs ≡ behind (kept_on d xs)
   kept-behind [] d = refl
@@ -61,7 +62,7 @@ module _ (d : Desk) (p : Page) (r : Recorder) (b out : List ℕ) (is : Leaves d 
   pub line_after : (h : Heard) (q : Recorder) (left last : List ℕ) → Leaves (line_on (desk_of r b) h) (page out r.at) q left last → Leaves (line_on d h) p q left last
   unfolding line_on
   line_after h q left last x = subst (λ (k : Desk). Leaves k p q left last) (sym whole)
-      (record { box_is = x.box_is; tape_is = x.tape_is; full_is = x.full_is; ended_is = x.ended_is; block_is = x.block_is; page_is = on-page _ _ x.page_is })
+      (record { box_is = x.box_is; tape_is = x.tape_is; ended_is = x.ended_is; block_is = x.block_is; page_is = on-page _ _ x.page_is })
     where
       made : Tape → List ℕ → List (List ℕ) → Bool → Desk
       made t c l e = kept_on (desk h.box (recorder t c l) e) h.kept

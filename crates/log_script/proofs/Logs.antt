@@ -19,11 +19,12 @@ use Rattle.script.specs.Replies.{Reply, play_reply, set_reply}
 use Rattle.script.specs.Replies as script
 use Rattle.bench_line.specs.Lines.{parsed_line}
 use Rattle.bench_line.specs.Settings.{settings_in}
-use Rattle.std.specs.Prelude.{Option, Some, None, IfSome}
+use Rattle.std.specs.Prelude.{Option, Some, None, IfSome, Result, Ok, Err}
 use Rattle.bench.specs.declared.reply.Setup.{Setup}
 use Rattle.bench.specs.Replies.{ground_bench, open_reply, listed_reply, settings_reply, line_reply}
-use Rattle.log_blocks.specs.declared.Appended.{Appended}
-use Rattle.log_blocks.specs.declared.Appended.TheVariants.{Wrote, Full, Ended, Refused}
+use Rattle.log_blocks.specs.declared.NotWritten.{NotWritten}
+use Rattle.log_blocks.specs.declared.NotWritten.TheVariants.{Full, Ended, Refused}
+use Rattle.log_blocks.specs.declared.Tape.{Tape}
 use Rattle.log_blocks.specs.Block.{BLOCKS}
 use Rattle.log_blocks.specs.Log.{got, pack}
 use Rattle.log_blocks.specs.Play.{play_log}
@@ -47,16 +48,16 @@ note-onward : (d : Desk) (x : Rec) (rs : List Rec) → onward (pick d.ended d (n
 unfolding note_on
 note-onward d x rs = go d.ended refl (appended d.log.at d.log.block x)
   where
-    by : Appended → Desk
+    by : Result Tape NotWritten → Desk
     by a = desk d.box (note_by a d.log x (λ (l : Recorder). l)) (ends a)
 
-    go : (e : Bool) → d.ended ≡ e → (a : Appended)
+    go : (e : Bool) → d.ended ≡ e → (a : Result Tape NotWritten)
         → onward (pick e d (by a)) rs ≡ pick e d.log (note_by a d.log x (λ (l : Recorder). note_all l rs))
     go true e a = ap (λ (c : Bool). pick c d.log (note_all d.log rs)) e
-    go false e (Wrote t) = refl
-    go false e Full = refl
-    go false e Ended = refl
-    go false e Refused = refl
+    go false e (Ok t) = refl
+    go false e (Err Full) = refl
+    go false e (Err Ended) = refl
+    go false e (Err Refused) = refl
 
 kept-onward : (xs : List Rec) (d : Desk) (rs : List Rec) → onward (kept_on d xs) rs ≡ onward d (noted_all xs ++ rs)
 kept-onward [] d rs = refl

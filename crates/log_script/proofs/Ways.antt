@@ -45,7 +45,7 @@ pub hears-as : {h k : Heard} (e : Entry) (o : List ℕ) → h ≡ k → Hears k 
 hears-as e o q x = subst (λ (y : Heard). Hears y e o) (sym q) x
 
 abbrev pub kept : Setup → ℕ → ℕ → ℕ → Entry
-kept b k s n = record { setup = b; kept = true; kind = k; seconds = s; len = n }
+kept b k s n = record { setup = b; kept = Some (record { kind = k; seconds = s; len = n }) }
 
 -- ---- a line for a box that has its settings
 abbrev pub call_heard : Setup → List ℕ → Heard

@@ -13,6 +13,7 @@ use Rattle.bench.specs.Replies.{line_reply}
 use Rattle.log_blocks.specs.Record.{Rec, rec}
 use Rattle.log_play.specs.Records.{record_of, settings_record}
 use Rattle.log_script.specs.declared.line.Entry.{Entry}
+use Rattle.log_script.specs.declared.line.Kept.{Kept}
 
 -- the record of a call, in its full length, where it is accepted
 unfoldable pub call_kept : Link → Parsed Call → List Rec
@@ -46,10 +47,11 @@ heard_line b line = heard (line_reply b line).box (line_kept b line)
 unfoldable pub heard_into : ℕ → Setup → List ℕ → Heard
 heard_into room b line = pick (leb 2048 room) (heard_line b line) (heard b [])
 
--- the record of an entry, with the buffer in which its data stands
-abbrev pub kept_in : Entry → List ℕ → List Rec
-kept_in e o = pick e.kept (rec e.kind e.seconds (take e.len o) ∷ []) []
+-- the record that is kept, with the buffer in which its data stands
+abbrev pub kept_in : Option Kept → List ℕ → List Rec
+kept_in (Some k) o = rec k.kind k.seconds (take k.len o) ∷ []
+kept_in None o = []
 
 pub record Hears (h : Heard) (e : Entry) (o : List ℕ) : Type 0 where
   pub box_is : e.setup ≡ h.box
-  pub record_is : kept_in e o ≡ h.kept
+  pub record_is : kept_in e.kept o ≡ h.kept

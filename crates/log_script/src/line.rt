@@ -29,15 +29,20 @@ use text::least;
 // Room for the octets of the longest line.
 const ROOM: usize = 2048;
 
-// The box after a line, and the record that is `kept` of it: the data are the first `len` octets of a buffer.
+// The record that is kept of a line: its data are the first `len` octets of a buffer.
+#[derive(Clone, Copy, PartialEq, Eq, Debug)]
+pub struct Kept {
+    pub kind: u8,
+    pub seconds: u32,
+    pub len: usize,
+}
+
+// The box after a line, and its record.
 #[derive(Drop)]
 #[derive(Clone, Copy)]
 pub struct Entry {
     pub setup: Setup,
-    pub kept: bool,
-    pub kind: u8,
-    pub seconds: u32,
-    pub len: usize,
+    pub kept: Option<Kept>,
 }
 
 // A line that is refused: it leaves the box, and no record.
@@ -46,10 +51,7 @@ fn nothing(b: Setup) -> Entry
 {
     Entry {
         setup: b,
-        kept: false,
-        kind: 0,
-        seconds: 0,
-        len: 0,
+        kept: None,
     }
 }
 
@@ -75,16 +77,8 @@ fn seconds_of(call: Call) -> u32
     ensures { (s : List ℕ) → result ≡ (record_of call s).seconds }
 {
     match call {
-        Call::Request(_) => 0,
-        Call::UserAbort => 0,
         Call::Elapse(n) => n,
-        Call::StartConfirm => 0,
-        Call::StartRejected => 0,
-        Call::Data => 0,
-        Call::EndConfirm => 0,
-        Call::PeerAbort => 0,
-        Call::AirAbort => 0,
-        Call::Down => 0,
+        _ => 0,
     }
 }
 
@@ -107,15 +101,8 @@ fn put_data(call: Call, n: usize, octets: &mut [u8]) -> usize
 {
     match call {
         Call::Request(g) => put_request(g, octets),
-        Call::UserAbort => 0,
-        Call::Elapse(_) => 0,
-        Call::StartConfirm => n,
-        Call::StartRejected => 0,
-        Call::Data => n,
-        Call::EndConfirm => 0,
-        Call::PeerAbort => 0,
-        Call::AirAbort => n,
-        Call::Down => 0,
+        Call::StartConfirm | Call::Data | Call::AirAbort => n,
+        _ => 0,
     }
 }
 
@@ -128,27 +115,24 @@ fn hear_call(b: Setup, line: &[u8], octets: &mut [u8]) -> Entry
     let LineCall::Makes(call, n) = told else {
         return nothing(b);
     };
-    let link = b.link;
     let m = least(n, octets.len());
-    let a = answer(link, call, &octets[..m]);
-    let next = a.link;
+    let a = answer(b.link, call, &octets[..m]);
     let setup = Setup {
         ready: true,
-        link: next,
+        link: a.link,
     };
-    let said = a.said;
-    if said.refusal != 0 {
+    if a.said.refusal != 0 {
         return nothing(setup);
     }
     let len = put_data(call, m, octets);
-    let kind = kind_of(call);
-    let seconds = seconds_of(call);
+    let kept = Kept {
+        kind: kind_of(call),
+        seconds: seconds_of(call),
+        len,
+    };
     Entry {
         setup,
-        kept: true,
-        kind,
-        seconds,
-        len,
+        kept: Some(kept),
     }
 }
 
@@ -177,12 +161,14 @@ fn hear_settings(b: Setup, tail: &[u8], octets: &mut [u8]) -> Entry
     }
     let link = o.link;
     let len = put_settings(link, octets);
-    Entry {
-        setup: Setup { ready: true, link },
-        kept: true,
+    let kept = Kept {
         kind: 0,
         seconds: 0,
         len,
+    };
+    Entry {
+        setup: Setup { ready: true, link },
+        kept: Some(kept),
     }
 }
 

@@ -1,13 +1,13 @@
-use mathlib.Core.Path.{refl}
-use native.Mathlib.Omega.{arith}
-use Rattle.log_blocks.proofs.Seals.{no_size, no_payload, no_number}
+use Rattle.std.proofs.Common.{arith, rules, tests}
+use Rattle.std.proofs.lemmas.Bool.Decides.{nat_tests}
+use Rattle.log_blocks.specs.Tapes.{fitting}
 use Rattle.log_blocks.proofs.fits.Goals as goal
+use Rattle.log_blocks.proofs.fits.Goals.{then-size-eq-BLOCK, else-size-eq-BLOCK}
 
-pub returns-then-size-ne-BLOCK : goal.returns-then-size-ne-BLOCK
-returns-then-size-ne-BLOCK c = let a = c.args in no_size a.number a.used a.size c.if-size-ne-BLOCK.true
+pub returns-then-used-le-ROOM : goal.returns-then-used-le-ROOM
+unfolding fitting
+returns-then-used-le-ROOM c = elim c.if-size-eq-BLOCK.branch [ then-size-eq-BLOCK w ↦ search (rules, tests) | else-size-eq-BLOCK w ↦ search (rules, tests) ]
 
-pub returns-then-used-gt-ROOM : goal.returns-then-used-gt-ROOM
-returns-then-used-gt-ROOM c = let a = c.args in no_payload a.number a.used a.size c.if-size-ne-BLOCK.false (omega arith)
-
-pub returns : goal.returns
-returns c = let a = c.args in no_number a.number a.used a.size _ c.if-size-ne-BLOCK.false (omega arith) refl
+pub returns-else-used-le-ROOM : goal.returns-else-used-le-ROOM
+unfolding fitting
+returns-else-used-le-ROOM c = elim c.if-size-eq-BLOCK.branch [ then-size-eq-BLOCK w ↦ grind (arith, nat_tests) | else-size-eq-BLOCK w ↦ grind (arith, nat_tests) ]

@@ -6,10 +6,10 @@ use Rattle.log_blocks.specs.Places.{from}
 use Rattle.log_bench.specs.Shown.{Shows}
 use Rattle.log_bench.proofs.show.show_block.Given as goal
 
-abbrev pub invariant-loop-at : goal.invariant-loop-at
-invariant-loop-at l = (l.at ≤ 510)
+abbrev pub invariant-loop-r : goal.invariant-loop-r
+invariant-loop-r l = (l.at ≤ 510)
     × (length l.out ≡ length l.initial.out)
     × ((n : ℕ) (s : Setup) → Shows (from l.block l.at) l.e.number l.e.setup n s → Shows (from l.block 6) l.initial.e.number l.initial.e.setup n s)
 
-abbrev pub decreases-loop-at : goal.decreases-loop-at
-decreases-loop-at l = 512 - l.at
+abbrev pub decreases-loop-r : goal.decreases-loop-r
+decreases-loop-r l = 512 - l.at

@@ -1,56 +1,52 @@
-use mathlib.Core.Path.{refl, sym, ◌∙◌}
+use mathlib.Core.Path.{◌≡◌, refl, sym, ap, ◌∙◌}
 use native.Mathlib.Omega.{arith}
 use borrow.Author.Tests.{not-true, not-false}
+use Rattle.std.specs.Prelude.{Some, Ok}
+use Rattle.log_blocks.specs.Places.{found_at}
 use Rattle.log_blocks.proofs.Walks.{walk-on}
 use Rattle.log_play.proofs.Walks.{data-place, turn_end, turn-unreadable, turn-stays, turn-goes}
 use Rattle.log_play.proofs.block.walk.Goals as goal
+use Rattle.log_play.proofs.block.walk.Goals.{In-Ok-Some}
 
-pub loop-at-init : goal.loop-at-init
-loop-at-init c = (omega arith, refl)
+found : (c : In-Ok-Some) → found_at c.args.block.now c.loop-r.at ≡ Ok (Some c.in-Ok-Some.r)
+found c = sym c.record_at.ensures ∙ (c.in-Ok-Some.is ∙ ap Ok c.in-Ok-Some.field-0-is)
+
+pub loop-r-init : goal.loop-r-init
+loop-r-init c = (omega arith, refl)
 
 pub slice_bounds-play_record-count : goal.slice_bounds-play_record-count
-slice_bounds-play_record-count c = let q = c.loop-at in
-    let bl = c.args.block.now in
-    let e = sym c.record_at-f.ensures ∙ c.in-Record.is in
-    omega (arith, data-place bl q.at c.in-Record.kind c.in-Record.seconds c.in-Record.start c.in-Record.len c.in-Record.next e)
+slice_bounds-play_record-count c = omega (arith, data-place _ _ _ (found (goal.at.slice_bounds-play_record-count c).In-Ok-Some))
 
 pub slice_bounds-play_record-start : goal.slice_bounds-play_record-start
-slice_bounds-play_record-start c = let q = c.loop-at in
-    let bl = c.args.block.now in
-    let e = sym c.record_at-f.ensures ∙ c.in-Record.is in
-    omega (arith, data-place bl q.at c.in-Record.kind c.in-Record.seconds c.in-Record.start c.in-Record.len c.in-Record.next e)
+slice_bounds-play_record-start c = omega (arith, data-place _ _ _ (found (goal.at.slice_bounds-play_record-start c).In-Ok-Some))
 
 pub slice_bounds-play_record-end : goal.slice_bounds-play_record-end
-slice_bounds-play_record-end c = let q = c.loop-at in
-    let bl = c.args.block.now in
-    let e = sym c.record_at-f.ensures ∙ c.in-Record.is in
-    omega (arith, walk-on bl q.at c.requires.0 c.requires.1 c.in-Record.kind c.in-Record.seconds c.in-Record.start c.in-Record.len c.in-Record.next e, c.requires.0)
+slice_bounds-play_record-end c =
+    omega (arith, walk-on _ _ c.requires.0 c.requires.1 _ (found (goal.at.slice_bounds-play_record-end c).In-Ok-Some), c.requires.0)
 
 pub returns-then-not-s : goal.returns-then-not-s
-returns-then-not-s c = let q = c.loop-at in
-    let bl = c.args.block.now in
-    let e = sym c.record_at-f.ensures ∙ c.in-Record.is in
-    c.unplayed.ensures ∙ turn-stays bl q.at c.requires.0 c.requires.1 c.args.b q.setup c.in-Record.kind c.in-Record.seconds c.in-Record.start c.in-Record.len c.in-Record.next e _ c.play_record-s.ensures (not-true _ c.if-not-s.true) ∙ q.invariant.1
+returns-then-not-s c = let q = c.loop-r in
+    c.unplayed.ensures
+    ∙ turn-stays _ q.at c.requires.0 c.requires.1 c.args.b q.setup _ (found (goal.at.returns-then-not-s c).In-Ok-Some) _ c.play_record-s.ensures (not-true _ c.if-not-s.true)
+    ∙ q.invariant.1
 
-pub loop-at-smaller : goal.loop-at-smaller
-loop-at-smaller c = let q = c.loop-at in
-    let bl = c.args.block.now in
-    let e = sym c.record_at-f.ensures ∙ c.in-Record.is in
-    omega (arith, walk-on bl q.at c.requires.0 c.requires.1 c.in-Record.kind c.in-Record.seconds c.in-Record.start c.in-Record.len c.in-Record.next e)
+pub loop-r-smaller : goal.loop-r-smaller
+loop-r-smaller c = omega (arith, walk-on _ _ c.requires.0 c.requires.1 _ (found (goal.at.loop-r-smaller c).In-Ok-Some))
 
-pub loop-at-preserved : goal.loop-at-preserved
-loop-at-preserved c = let q = c.loop-at in
-    let bl = c.args.block.now in
-    let e = sym c.record_at-f.ensures ∙ c.in-Record.is in
-    ((walk-on bl q.at c.requires.0 c.requires.1 c.in-Record.kind c.in-Record.seconds c.in-Record.start c.in-Record.len c.in-Record.next e).1, turn-goes bl q.at c.requires.0 c.requires.1 c.args.b q.setup c.in-Record.kind c.in-Record.seconds c.in-Record.start c.in-Record.len c.in-Record.next e _ c.play_record-s.ensures (not-false _ c.if-not-s.false) ∙ q.invariant.1)
+pub loop-r-preserved : goal.loop-r-preserved
+loop-r-preserved c = let q = c.loop-r in
+    let e = found (goal.at.loop-r-preserved c).In-Ok-Some in (
+      (walk-on _ _ c.requires.0 c.requires.1 _ e).1,
+      turn-goes _ q.at c.requires.0 c.requires.1 c.args.b q.setup _ e _ c.play_record-s.ensures (not-false _ c.if-not-s.false) ∙ q.invariant.1,
+    )
 
-pub returns-in-End : goal.returns-in-End
-returns-in-End c = let q = c.loop-at in
-    sym (turn_end c.args.block.now q.at c.requires.0 c.requires.1 c.args.b q.setup (sym c.record_at-f.ensures ∙ c.in-End.is)) ∙ q.invariant.1
+pub returns-in-Ok-None : goal.returns-in-Ok-None
+returns-in-Ok-None c = let q = c.loop-r in
+    sym (turn_end c.args.block.now q.at c.requires.0 c.requires.1 c.args.b q.setup (sym c.record_at.ensures ∙ (c.in-Ok-None.is ∙ ap Ok c.in-Ok-None.field-0-is)))
+    ∙ q.invariant.1
 
-pub returns-in-Unreadable : goal.returns-in-Unreadable
-returns-in-Unreadable c = let q = c.loop-at in
-    c.unplayed-in-Unreadable.ensures ∙ sym (turn-unreadable c.args.block.now q.at c.requires.0 c.requires.1 c.args.b q.setup (sym c.record_at-f.ensures ∙ c.in-Unreadable.is)) ∙ q.invariant.1
-
-pub returns : goal.returns
-returns c = absurd (omega arith)
+pub returns-in-Err : goal.returns-in-Err
+returns-in-Err c = let q = c.loop-r in
+    c.unplayed-in-Err.ensures
+    ∙ sym (turn-unreadable c.args.block.now q.at c.requires.0 c.requires.1 c.args.b q.setup (sym c.record_at.ensures ∙ c.in-Err.is))
+    ∙ q.invariant.1

@@ -3,10 +3,10 @@ use Rattle.log_play.specs.Steps.{accepted}
 use Rattle.log_play.specs.Plays.{step_in}
 use Rattle.log_play.proofs.record.accept.Goals as goal
 
-pub returns-then-refusal-ne0 : goal.returns-then-refusal-ne0
+pub returns-then-a-ne0 : goal.returns-then-a-ne0
 unfolding accepted step_in
-returns-then-refusal-ne0 c = rw (ne_eqb _ 0 c.if-refusal-ne0.true) c.stay.ensures
+returns-then-a-ne0 c = rw (ne_eqb _ 0 c.if-a-ne0.true) c.stay.ensures
 
 pub returns : goal.returns
 unfolding accepted step_in
-returns c = rw (eq-eqb _ 0 c.if-refusal-ne0.false)
+returns c = rw (eq-eqb _ 0 c.if-a-ne0.false)

@@ -1,28 +1,29 @@
 use borrow.Author.Tests.{not-true, not-false}
 use native.Mathlib.Omega.{arith}
 use lib.ListN.{length}
+use Rattle.std.proofs.Common.{◌≡◌, rules}
+use Rattle.std.specs.Prelude.{None}
 use Rattle.script.proofs.Rooms.{room_of}
+use Rattle.log_script.specs.Heard.{heard_line, Hears}
 use Rattle.log_script.proofs.Ways.{hears-whole}
 use Rattle.log_script.proofs.Notes.{line-none, line-ended, line-noted}
 use Rattle.log_script.proofs.recorder.add_line.Goals as goal
+use Rattle.log_script.proofs.recorder.add_line.Goals.{After-hear_line-e}
 
-pub returns-then-not-e : goal.returns-then-not-e
-returns-then-not-e c = let a = c.args in
-    let e = c.hear_line-e in
-    let room = c.line_room-octets in
-    let is = hears-whole a.r.setup a.line.now (length room.result) (omega (arith, room_of 2048 room.ensures)) e.result _ e.ensures in
-    line-none a.r a.block.now _ e.result _ is a.out.now (not-true _ c.if-not-e.true)
+-- what the line left, in a buffer that has room for any
+heard : (c : After-hear_line-e) → Hears (heard_line c.args.r.setup c.args.line.now) c.hear_line-e.result c.hear_line-e.new.octets
+heard c =
+    hears-whole c.args.r.setup c.args.line.now (length c.line_room-octets.result) (omega (arith, room_of 2048 c.line_room-octets.ensures)) _ _ c.hear_line-e.ensures
 
-pub returns-then-r : goal.returns-then-r
-returns-then-r c = let a = c.args in
-    let e = c.hear_line-e in
-    let room = c.line_room-octets in
-    let is = hears-whole a.r.setup a.line.now (length room.result) (omega (arith, room_of 2048 room.ensures)) e.result _ e.ensures in
-    line-ended a.r a.block.now _ e.result _ is (not-false _ c.if-not-e.false) a.out.now c.if-r.true
+pub returns-in-Some : goal.returns-in-Some
+returns-in-Some c = let a = c.args in
+    line-noted a.r a.block.now _ _ _ (heard (goal.at.returns-in-Some c).After-hear_line-e) _ c.in-Some.is _ _ _ _ (not-true _ c.if-not-r.true) c.note.ensures
 
-pub returns : goal.returns
-returns c = let a = c.args in
-    let e = c.hear_line-e in
-    let room = c.line_room-octets in
-    let is = hears-whole a.r.setup a.line.now (length room.result) (omega (arith, room_of 2048 room.ensures)) e.result _ e.ensures in
-    line-noted a.r a.block.now _ e.result _ is (not-false _ c.if-not-e.false) _ _ _ _ c.if-r.false c.note.ensures
+pub returns-in_default : goal.returns-in_default
+returns-in_default c = let a = c.args in
+    line-ended a.r a.block.now _ _ _ (heard (goal.at.returns-in_default c).After-hear_line-e) _ c.in-Some.is a.out.now (not-false _ c.if-not-r.false)
+
+pub returns-in_default-2 : goal.returns-in_default-2
+returns-in_default-2 c = let a = c.args in
+    let none : c.hear_line-e.result.kept ≡ None = search rules in
+    line-none a.r a.block.now _ _ _ (heard (goal.at.returns-in_default-2 c).After-hear_line-e) a.out.now none
