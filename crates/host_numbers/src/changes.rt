@@ -9,15 +9,6 @@ use pdu_events::changes::{Changes, Either, LevelRange};
 pub(crate) fn flat_changes(a: Changes) -> [u32; G_NUMBERS]
     ensures { result ≡ flat_changes a }
 {
-    let rate = a.rate;
-    let range = a.range;
-    let ceiling = range.ceiling;
-    let floor = range.floor;
-    let air = a.air;
-    let profile = a.profile;
-    let climb = complement(rate);
-    let top = complement(ceiling);
-    let low = complement(floor);
     [
         4,
         a.elements,
@@ -29,15 +20,15 @@ pub(crate) fn flat_changes(a: Changes) -> [u32; G_NUMBERS]
         0,
         0,
         a.lateral,
-        climb,
-        top,
-        low,
-        air.kind,
-        air.number,
+        complement(a.rate),
+        complement(a.range.ceiling),
+        complement(a.range.floor),
+        a.air.kind,
+        a.air.number,
         a.over_ground,
         a.heading,
-        profile.kind,
-        profile.number,
+        a.profile.kind,
+        a.profile.number,
         a.track,
         a.level,
     ]
@@ -46,27 +37,24 @@ pub(crate) fn flat_changes(a: Changes) -> [u32; G_NUMBERS]
 pub(crate) fn changes_at(f: &[u32]) -> Changes
     ensures { result ≡ changes_at f.now }
 {
-    let rate = signed_at(f, G_RATE);
-    let ceiling = signed_at(f, G_CEILING);
-    let floor = signed_at(f, G_FLOOR);
-    let range = LevelRange { ceiling, floor };
-    let air = Either {
-        kind: number(f, G_AIR_SPEED),
-        number: number(f, G_AIR_SPEED_CHANGE),
-    };
-    let profile = Either {
-        kind: number(f, G_EXTENDED_PROFILE),
-        number: number(f, G_EXTENDED_PROFILE_COUNT),
-    };
     Changes {
         elements: number(f, G_WHAT),
         lateral: number(f, G_LATERAL),
-        rate,
-        range,
-        air,
+        rate: signed_at(f, G_RATE),
+        range: LevelRange {
+            ceiling: signed_at(f, G_CEILING),
+            floor: signed_at(f, G_FLOOR),
+        },
+        air: Either {
+            kind: number(f, G_AIR_SPEED),
+            number: number(f, G_AIR_SPEED_CHANGE),
+        },
         over_ground: number(f, G_GROUND_SPEED),
         heading: number(f, G_HEADING),
-        profile,
+        profile: Either {
+            kind: number(f, G_EXTENDED_PROFILE),
+            number: number(f, G_EXTENDED_PROFILE_COUNT),
+        },
         track: number(f, G_TRACK),
         level: number(f, G_LEVEL),
     }

@@ -2,7 +2,7 @@
 ghost use Rattle.std.specs.Prelude.{◌≡◌};
 ghost use Rattle.host_numbers.specs.DownlinkNumbers.{few, flat_acked, flat_urgent, flat_event, flat_air, acked_at, urgent_at, event_at, negative_at, kind_at, listed_at, list_at, air_at};
 
-use crate::copy::items_of;
+use crate::copy::{items_of, padded};
 use crate::numbers::{number, number_by, truth_at};
 use crate::places::*;
 use crate::reports::{fix_at, flat_fix, flat_report, report_at};
@@ -17,35 +17,29 @@ use pdu_parts::report::EmergencyReport;
 fn few_of(kind: u32, a: u32, b: u32, count: u32) -> [u32; A_NUMBERS]
     ensures { result ≡ few kind a b count }
 {
-    let mut f = [0u32; A_NUMBERS];
-    f[A_KIND] = kind;
-    f[A_WHAT] = a;
-    f[A_DETAIL] = b;
-    f[A_COUNT] = count;
-    f
+    padded(&[kind, a, b, count])
 }
 
 fn flat_acked(kind: u32, a: AckedReport) -> [u32; A_NUMBERS]
     ensures { result ≡ flat_acked kind a }
 {
-    let r = a.report;
-    flat_report(kind, a.ack, 0, r)
+    flat_report(kind, a.ack, 0, a.report)
 }
 
 fn flat_urgent(a: AckedEmergency) -> [u32; A_NUMBERS]
     ensures { result ≡ flat_urgent a }
 {
     let it = a.report;
-    let x = it.fix;
-    let ground = it.over_ground;
-    with_ground(flat_fix(2, a.ack, 0, it.elements, x, it.address), ground)
+    with_ground(
+        flat_fix(2, a.ack, 0, it.elements, it.fix, it.address),
+        it.over_ground,
+    )
 }
 
 fn flat_event(a: EventReport) -> [u32; A_NUMBERS]
     ensures { result ≡ flat_event a }
 {
-    let r = a.report;
-    flat_report(3, a.ack, a.event, r)
+    flat_report(3, a.ack, a.event, a.report)
 }
 
 pub fn flat_air(kind: Air, count: u32) -> [u32; A_NUMBERS]
@@ -67,35 +61,33 @@ pub fn flat_air(kind: Air, count: u32) -> [u32; A_NUMBERS]
 fn acked_at(f: &[u32]) -> AckedReport
     ensures { result ≡ acked_at f.now }
 {
-    let ack = truth_at(f, A_WHAT);
-    let report = report_at(f);
-    AckedReport { ack, report }
+    AckedReport {
+        ack: truth_at(f, A_WHAT),
+        report: report_at(f),
+    }
 }
 
 fn urgent_at(f: &[u32]) -> AckedEmergency
     ensures { result ≡ urgent_at f.now }
 {
-    let ack = truth_at(f, A_WHAT);
-    let fix = fix_at(f);
-    let ground = ground_vector_at(f);
-    let report = EmergencyReport {
-        elements: number_by(f, A_WHAT, A_ELEMENTS),
-        fix,
-        address: number(f, A_ADDRESS),
-        over_ground: ground,
-    };
-    AckedEmergency { ack, report }
+    AckedEmergency {
+        ack: truth_at(f, A_WHAT),
+        report: EmergencyReport {
+            elements: number_by(f, A_WHAT, A_ELEMENTS),
+            fix: fix_at(f),
+            address: number(f, A_ADDRESS),
+            over_ground: ground_vector_at(f),
+        },
+    }
 }
 
 fn event_at(f: &[u32]) -> EventReport
     ensures { result ≡ event_at f.now }
 {
-    let ack = truth_at(f, A_WHAT);
-    let report = report_at(f);
     EventReport {
-        ack,
+        ack: truth_at(f, A_WHAT),
         event: number(f, A_DETAIL),
-        report,
+        report: report_at(f),
     }
 }
 
@@ -112,8 +104,7 @@ fn negative_at(f: &[u32]) -> NegativeAck
 fn kind_at(f: &[u32]) -> Air
     ensures { result ≡ kind_at f.now }
 {
-    let kind = number(f, A_KIND);
-    match kind {
+    match number(f, A_KIND) {
         0 => Air::CancelEmergency,
         1 => Air::Demand(acked_at(f)),
         2 => Air::Emergency(urgent_at(f)),
@@ -130,10 +121,9 @@ fn kind_at(f: &[u32]) -> Air
 fn listed_at(f: &[u32], list: &[u8]) -> Listed
     ensures { result ≡ listed_at f.now list.now }
 {
-    let items = items_of(list);
     Listed {
         count: number(f, A_COUNT),
-        items,
+        items: items_of(list),
     }
 }
 
@@ -141,10 +131,8 @@ fn listed_at(f: &[u32], list: &[u8]) -> Listed
 fn list_at(f: &[u32], list: &[u8]) -> Listed
     ensures { result ≡ list_at f.now list.now }
 {
-    let kind = number(f, A_KIND);
-    match kind {
-        4 => listed_at(f, list),
-        5 => listed_at(f, list),
+    match number(f, A_KIND) {
+        4 | 5 => listed_at(f, list),
         _ => no_list(),
     }
 }
@@ -152,7 +140,8 @@ fn list_at(f: &[u32], list: &[u8]) -> Listed
 pub fn air_at(f: &[u32], list: &[u8]) -> AirPdu
     ensures { result ≡ air_at f.now list.now }
 {
-    let kind = kind_at(f);
-    let list = list_at(f, list);
-    AirPdu { kind, list }
+    AirPdu {
+        kind: kind_at(f),
+        list: list_at(f, list),
+    }
 }

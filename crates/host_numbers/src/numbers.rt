@@ -21,34 +21,25 @@ pub fn number_by(f: &[u32], flag: usize, i: usize) -> u32
     ensures { result ≡ number_by f.now flag i }
 {
     let v = number(f, i);
-    if number(f, flag) < 2 { v } else { 4294967295 }
+    if number(f, flag) < 2 { v } else { u32::MAX }
 }
 
 pub fn bit(b: bool) -> u32
     ensures { result ≡ bit_of b }
 {
-    if b { 1 } else { 0 }
+    u32::from(b)
 }
 
 // A number with a sign stands in its two's complement.
 pub fn signed_at(f: &[u32], i: usize) -> Signed
     ensures { result ≡ signed_of (get_or f.now i 0) }
 {
-    let v = number(f, i);
-    if v < 2147483648 {
-        return Signed { number: v as i32 };
-    }
-    let down = (4294967295 - v) as i32;
-    Signed { number: -1 - down }
+    let number = number(f, i).cast_signed();
+    Signed { number }
 }
 
 pub fn complement(z: Signed) -> u32
     ensures { result ≡ twos z.number }
 {
-    let n = z.number;
-    if n < 0 {
-        let down = (-1 - n) as u32;
-        return 4294967295 - down;
-    }
-    n as u32
+    z.number.cast_unsigned()
 }

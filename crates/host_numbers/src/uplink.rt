@@ -3,6 +3,7 @@ ghost use Rattle.std.specs.Prelude.{◌≡◌};
 ghost use Rattle.host_numbers.specs.UplinkNumbers.{flat_ground, flat_modify, flat_periodic, pair_of, scale_of, times_of, interval_of, periodic_at, ground_at};
 
 use crate::changes::{changes_at, flat_changes};
+use crate::copy::padded;
 use crate::numbers::number;
 use crate::places::*;
 use pdu::uplink::Ground;
@@ -22,8 +23,7 @@ fn times_of(i: Interval) -> u32
     ensures { result ≡ times_of i }
 {
     match i {
-        Interval::Seconds(n) => n,
-        Interval::Minutes(n) => n,
+        Interval::Seconds(n) | Interval::Minutes(n) => n,
     }
 }
 
@@ -31,53 +31,29 @@ fn times_of(i: Interval) -> u32
 fn pair(kind: u32, n: u32) -> [u32; G_NUMBERS]
     ensures { result ≡ pair_of kind n }
 {
-    let mut f = [0u32; G_NUMBERS];
-    f[G_KIND] = kind;
-    f[G_WHAT] = n;
-    f
+    padded(&[kind, n])
 }
 
 fn flat_modify(i: Interval) -> [u32; G_NUMBERS]
     ensures { result ≡ flat_modify i }
 {
-    let scale = scale_of(i);
-    let times = times_of(i);
-    let mut f = [0u32; G_NUMBERS];
-    f[G_KIND] = 5;
-    f[G_SCALE] = scale;
-    f[G_INTERVAL] = times;
-    f
+    padded(&[5, 0, scale_of(i), times_of(i)])
 }
 
 fn flat_periodic(a: Periodic) -> [u32; G_NUMBERS]
     ensures { result ≡ flat_periodic a }
 {
-    let interval = a.interval;
-    let scale = scale_of(interval);
-    let times = times_of(interval);
-    [
+    padded(&[
         6,
         a.elements,
-        scale,
-        times,
+        scale_of(a.interval),
+        times_of(a.interval),
         a.address,
         a.profile,
         a.over_ground,
         a.air,
         a.weather,
-        0,
-        0,
-        0,
-        0,
-        0,
-        0,
-        0,
-        0,
-        0,
-        0,
-        0,
-        0,
-    ]
+    ])
 }
 
 pub fn flat_ground(g: Ground) -> [u32; G_NUMBERS]
@@ -109,21 +85,14 @@ fn interval_of(scale: u32, n: u32) -> Interval
 fn periodic_at(f: &[u32]) -> Periodic
     ensures { result ≡ periodic_at f.now }
 {
-    let elements = number(f, G_WHAT);
-    let interval = interval_of(number(f, G_SCALE), number(f, G_INTERVAL));
-    let address = number(f, G_ADDRESS);
-    let profile = number(f, G_PROFILE);
-    let ground = number(f, G_GROUND_VECTOR);
-    let air = number(f, G_AIR_VECTOR);
-    let weather = number(f, G_WEATHER);
     Periodic {
-        interval,
-        elements,
-        address,
-        profile,
-        over_ground: ground,
-        air,
-        weather,
+        interval: interval_of(number(f, G_SCALE), number(f, G_INTERVAL)),
+        elements: number(f, G_WHAT),
+        address: number(f, G_ADDRESS),
+        profile: number(f, G_PROFILE),
+        over_ground: number(f, G_GROUND_VECTOR),
+        air: number(f, G_AIR_VECTOR),
+        weather: number(f, G_WEATHER),
     }
 }
 

@@ -3,4 +3,4 @@ use Rattle.host_numbers.proofs.downlink.acked_at.Goals as goal
 
 pub returns : goal.returns
 unfolding acked_at
-returns c = rw (c.truth_at-ack.ensures, c.report_at-report.ensures)
+returns c = cc

@@ -3,4 +3,4 @@ use Rattle.host_numbers.proofs.downlink.air_at.Goals as goal
 
 pub returns : goal.returns
 unfolding air_at
-returns c = rw (c.kind_at-kind.ensures, c.list_at-list.ensures)
+returns c = cc

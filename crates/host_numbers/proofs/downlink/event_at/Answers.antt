@@ -3,4 +3,4 @@ use Rattle.host_numbers.proofs.downlink.event_at.Goals as goal
 
 pub returns : goal.returns
 unfolding event_at
-returns c = rw (c.truth_at-ack.ensures, c.report_at-report.ensures, c.number.ensures)
+returns c = cc

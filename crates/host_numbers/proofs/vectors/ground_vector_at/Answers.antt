@@ -3,4 +3,4 @@ use Rattle.host_numbers.proofs.vectors.ground_vector_at.Goals as goal
 
 pub returns : goal.returns
 unfolding ground_vector_at
-returns c = rw (c.signed_at-speed.ensures, c.signed_at-rate.ensures, c.number.ensures, c.number-2.ensures)
+returns c = cc
