@@ -27,6 +27,18 @@ quads-step ws out at i h =
 pub quads-end : (ws out : List ℕ) (at i : ℕ) → length ws ≤ i → sets out (at + i * 4) (quads (drop i ws)) ≡ out
 quads-end ws out at i h = rw (drop_of_length-le ws h)
 
+-- ---- a list is its elements
+abbrev pub elements_from : List ℕ → ℕ → ℕ → List ℕ
+elements_from xs i zero = []
+elements_from xs i (suc n) = get_or xs i 0 ∷ elements_from xs (suc i) n
+
+elements-from : (xs : List ℕ) (i n : ℕ) → length xs ≡ i + n → elements_from xs i n ≡ drop i xs
+elements-from xs i zero e = sym (drop_of_length-le xs (omega (arith, e)))
+elements-from xs i (suc n) e = rw (elements-from xs (suc i) n (omega (arith, e)), drop-cons xs i 0 (omega (arith, e)))
+
+pub elements : (xs : List ℕ) (n : ℕ) → length xs ≡ n → elements_from xs 0 n ≡ xs
+elements xs n e = elements-from xs 0 n (omega (arith, e))
+
 -- ---- one run after another is one run
 pub sets-append : (xs ys l : List ℕ) (i n : ℕ) → n ≡ i + length xs → sets (sets l i xs) n ys ≡ sets l i (xs ++ ys)
 sets-append [] ys l i n e = let f : n ≡ i = omega (arith, e) in rw f

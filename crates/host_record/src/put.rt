@@ -10,9 +10,7 @@ pub(crate) fn put_words(out: &mut [u8], at: usize, ws: [u32; TIMERS])
     requires { at + 40 ≤ length out.old }
     ensures { out.new ≡ sets out.old at (quads ws) }
 {
-    let mut i: usize = 0;
-    while i < TIMERS {
-        put_word(out, at + i * 4, ws[i]);
-        i += 1;
+    for (i, w) in ws.iter().enumerate() {
+        put_word(out, at + i * 4, *w);
     }
 }

@@ -8,7 +8,7 @@ ghost use Rattle.host_record.specs.RecordLayout.{five, interval_octets, Spelled,
 use crate::put::put_words;
 use ground_answer::record::{Link, make};
 use ground_tables::intervals::Intervals;
-use host_numbers::copy::copy_octets;
+use host_numbers::copy::copy_into;
 use link::moves::TIMERS;
 use octets::{put_word, read_word};
 
@@ -29,19 +29,25 @@ fn word_in(s: &[u8], at: usize) -> u32
     read_word(&s[at..at + 4], 0)
 }
 
+fn words_in(s: &[u8], at: usize) -> [u32; TIMERS]
+    requires { at + 40 ≤ length s.now }
+    ensures { result ≡ words s.now at timers }
+{
+    let mut ws = [0u32; TIMERS];
+    for (i, w) in ws.iter_mut().enumerate() {
+        *w = word_in(s, at + i * 4);
+    }
+    ws
+}
+
 fn numbers_in(s: &[u8]) -> Numbers
     requires { length s.now ≡ RECORD-OCTETS }
     ensures { Spelled s.now result.setting result.left }
 {
-    let mut setting = [0u32; TIMERS];
-    let mut left = [0u32; TIMERS];
-    let mut i: usize = 0;
-    while i < TIMERS {
-        setting[i] = word_in(s, i * 4);
-        left[i] = word_in(s, 40 + i * 4);
-        i += 1;
+    Numbers {
+        setting: words_in(s, 0),
+        left: words_in(s, 40),
     }
-    Numbers { setting, left }
 }
 
 // The record that as many octets as it has spell, good or not.
@@ -50,14 +56,12 @@ fn spell(s: &[u8]) -> Link
     ensures { result ≡ link_of s.now }
 {
     let n = numbers_in(s);
-    let setting = n.setting;
-    let left = n.left;
     let at = [s[80], s[81], s[82], s[83], s[84]];
     let interval = Intervals {
         asked: word_in(s, 85),
         force: word_in(s, 89),
     };
-    make(setting, left, at, interval)
+    make(n.setting, n.left, at, interval)
 }
 
 // The same of any octets: those that are not there are 0.
@@ -68,7 +72,7 @@ pub fn load(s: &[u8]) -> Link
         return spell(s);
     }
     let mut whole = [0u8; RECORD];
-    copy_octets(s, &mut whole);
+    copy_into(s, &mut whole);
     spell(&whole)
 }
 
@@ -76,11 +80,7 @@ fn put_states(out: &mut [u8], at: [u8; 5])
     requires { length out.old ≡ RECORD-OCTETS }
     ensures { out.new ≡ sets out.old 80 (five at) }
 {
-    out[80] = at[0];
-    out[81] = at[1];
-    out[82] = at[2];
-    out[83] = at[3];
-    out[84] = at[4];
+    out[80..85].copy_from_slice(&at);
 }
 
 fn put_intervals(out: &mut [u8], i: Intervals)
@@ -95,20 +95,16 @@ fn put_rest(l: Link, out: &mut [u8])
     requires { length out.old ≡ RECORD-OCTETS }
     ensures { out.new ≡ sets out.old 40 (rest_octets l) }
 {
-    let left = l.left;
-    let at = l.at;
-    let interval = l.interval;
-    put_words(out, 40, left);
-    put_states(out, at);
-    put_intervals(out, interval);
+    put_words(out, 40, l.left);
+    put_states(out, l.at);
+    put_intervals(out, l.interval);
 }
 
 fn store(l: Link, out: &mut [u8])
     requires { length out.old ≡ RECORD-OCTETS }
     ensures { out.new ≡ record_octets l }
 {
-    let setting = l.setting;
-    put_words(out, 0, setting);
+    put_words(out, 0, l.setting);
     put_rest(l, out);
 }
 

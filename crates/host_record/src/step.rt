@@ -7,7 +7,7 @@ use crate::record::{RECORD, load, save, save_rest};
 use ground::call::{Call, answer};
 use ground_answer::answer::{Said, refuse};
 use ground_answer::fresh::open;
-use host_numbers::copy::copy_numbers;
+use host_numbers::copy::padded;
 use link::moves::TIMERS;
 use refusals::{BAD_RECORD, BAD_SETTING, NO_ROOM};
 
@@ -17,39 +17,31 @@ pub fn serve(link: &mut [u8], call: Call, octets: &[u8], out: &mut [u8]) -> Said
     ensures { Serves call octets.now link.old out.old result link.new out.new }
 {
     if link.len() != RECORD {
-        let bad = refuse(load(link), BAD_RECORD);
-        return bad.said;
+        return refuse(load(link), BAD_RECORD).said;
     }
     let a = answer(load(link), call, octets);
-    let said = a.said;
-    let refusal = said.refusal;
-    if refusal != 0 {
-        return said;
+    if a.said.refusal != 0 {
+        return a.said;
     }
-    let after = a.link;
     if out.len() < ANSWER {
-        let full = refuse(after, NO_ROOM);
-        return full.said;
+        return refuse(a.link, NO_ROOM).said;
     }
-    save_rest(after, link);
-    save_answer(said, out);
-    said
+    save_rest(a.link, link);
+    save_answer(a.said, out);
+    a.said
 }
 
 pub fn step(link: &mut [u8], call: Call, octets: &[u8], out: &mut [u8]) -> u8
     ensures { Hosts (hosted call octets.now link.old out.old) result link.new out.new }
 {
-    let said = serve(link, call, octets, out);
-    said.refusal
+    serve(link, call, octets, out).refusal
 }
 
 // The settings in an array; missing ones count as 0.
 fn settings_of(f: &[u32]) -> [u32; TIMERS]
     ensures { result ≡ settings_of f.now }
 {
-    let mut list = [0u32; TIMERS];
-    copy_numbers(f, &mut list);
-    list
+    padded(f)
 }
 
 pub fn make(settings: &[u32], link: &mut [u8]) -> u8
@@ -59,14 +51,12 @@ pub fn make(settings: &[u32], link: &mut [u8]) -> u8
         return BAD_SETTING;
     }
     let o = open(settings_of(settings));
-    let refusal = o.refusal;
-    if refusal != 0 {
-        return refusal;
+    if o.refusal != 0 {
+        return o.refusal;
     }
     if link.len() != RECORD {
         return NO_ROOM;
     }
-    let l = o.link;
-    save(l, link);
+    save(o.link, link);
     0
 }

@@ -4,4 +4,4 @@ use Rattle.host_record.proofs.answer.answer_octets.Goals as goal
 
 pub returns : goal.returns
 unfolding answer_octets
-returns c = c.with_sent.ensures ∙ rw c.head_octets-head.ensures
+returns c = c.with_sent.ensures ∙ rw c.head_octets.ensures

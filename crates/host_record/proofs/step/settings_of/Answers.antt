@@ -3,4 +3,4 @@ use Rattle.host_record.proofs.step.settings_of.Goals as goal
 
 pub returns : goal.returns
 unfolding settings_of
-returns c = c.copy_numbers.ensures
+returns c = c.padded.ensures
