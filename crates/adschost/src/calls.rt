@@ -19,8 +19,7 @@ pub fn adsc_open(settings: &[u32], link: &mut [u8]) -> u8
 pub fn adsc_request(link: &mut [u8], numbers: &[u32], answer: &mut [u8]) -> u8
     ensures { Hosts (hosted (Request (ground_at numbers.now)) [] link.old answer.old) result link.new answer.new }
 {
-    let g = ground_at(numbers);
-    step(link, Call::Request(g), b"", answer)
+    step(link, Call::Request(ground_at(numbers)), b"", answer)
 }
 
 pub fn adsc_user_abort(link: &mut [u8], answer: &mut [u8]) -> u8

@@ -9,7 +9,7 @@ ghost use Rattle.host_numbers.specs.UplinkNumbers.{ground_at};
 ghost use Rattle.host_numbers.specs.DownlinkNumbers.{air_at};
 ghost use Rattle.adschost.specs.Flatness.{air_shown, ShowsAir, ground_shown, ShowsGround, number_of, length_of, WritesFlat};
 
-use host_numbers::copy::{copy_numbers, put_items};
+use host_numbers::copy::{copy_into, put_items};
 use host_numbers::downlink::{air_at, flat_air};
 use host_numbers::places::{A_NUMBERS, G_NUMBERS};
 use host_numbers::uplink::{flat_ground, ground_at};
@@ -28,10 +28,8 @@ pub fn adsc_read_air(octets: &[u8], numbers: &mut [u32], list: &mut [u8]) -> u8
             if list.len() < 128 {
                 return Refusal::NoRoom.number();
             }
-            let listed = pdu.list;
-            let flat = flat_air(pdu.kind, listed.count);
-            copy_numbers(&flat, numbers);
-            put_items(&listed.items, list);
+            copy_into(&flat_air(pdu.kind, pdu.list.count), numbers);
+            put_items(&pdu.list.items, list);
             0
         }
         Err(refusal) => refusal.number(),
@@ -47,8 +45,7 @@ pub fn adsc_read_ground(octets: &[u8], numbers: &mut [u32]) -> u8
             if numbers.len() < G_NUMBERS {
                 return Refusal::NoRoom.number();
             }
-            let flat = flat_ground(g);
-            copy_numbers(&flat, numbers);
+            copy_into(&flat_ground(g), numbers);
             0
         }
         Err(refusal) => refusal.number(),
@@ -71,15 +68,11 @@ fn tell(w: Result<usize, Refusal>, written: &mut usize) -> u8
 pub fn adsc_write_air(numbers: &[u32], list: &[u8], out: &mut [u8], written: &mut usize) -> u8
     ensures { WritesFlat (write_pdu air_c (air_at numbers.now list.now) out.old) written.old result out.new written.new }
 {
-    let a = air_at(numbers, list);
-    let w = encode_air(a, out);
-    tell(w, written)
+    tell(encode_air(air_at(numbers, list), out), written)
 }
 
 pub fn adsc_write_ground(numbers: &[u32], out: &mut [u8], written: &mut usize) -> u8
     ensures { WritesFlat (write_pdu ground_c (ground_at numbers.now) out.old) written.old result out.new written.new }
 {
-    let g = ground_at(numbers);
-    let w = encode_ground(g, out);
-    tell(w, written)
+    tell(encode_ground(ground_at(numbers), out), written)
 }

@@ -9,7 +9,7 @@ pub returns-then-list-lt128 : goal.returns-then-list-lt128
 returns-then-list-lt128 c = rw c.number-then-list-lt128.ensures.is (short-list _ c.args.numbers.now c.args.list.now c.in-Ok.pdu c.in-Ok.ensures c.if-numbers-lt-A_NUMBERS.false c.if-list-lt128.true)
 
 pub returns-else-list-lt128 : goal.returns-else-list-lt128
-returns-else-list-lt128 c = air-there _ c.args.numbers.now c.args.list.now c.in-Ok.pdu c.in-Ok.ensures c.if-numbers-lt-A_NUMBERS.false c.if-list-lt128.false _ _ (c.copy_numbers.ensures ∙ rw c.flat_air-flat.ensures) c.put_items.ensures
+returns-else-list-lt128 c = air-there _ c.args.numbers.now c.args.list.now c.in-Ok.pdu c.in-Ok.ensures c.if-numbers-lt-A_NUMBERS.false c.if-list-lt128.false _ _ (c.copy_into.ensures ∙ rw c.flat_air.ensures) c.put_items.ensures
 
 pub returns-in-Err : goal.returns-in-Err
 returns-in-Err c = rw c.number-in-Err.ensures.is (air-refused _ c.args.numbers.now c.args.list.now _ c.in-Err.ensures)

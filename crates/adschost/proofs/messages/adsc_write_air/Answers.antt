@@ -4,6 +4,6 @@ use Rattle.adschost.proofs.messages.adsc_write_air.Goals as goal
 
 pub returns : goal.returns
 returns c = let k = c.args in
-    let a = c.air_at-a in
-    let w = c.encode_air-w in
+    let a = c.air_at in
+    let w = c.encode_air in
     written-so air_c a.result _ a.ensures k.out.now w.result _ w.ensures k.written.now _ _ c.tell.ensures

@@ -4,5 +4,5 @@ use Rattle.adschost.proofs.messages.adsc_write_ground.Goals as goal
 
 pub returns : goal.returns
 returns c = let k = c.args in
-    let g = c.ground_at-g in
-    written-so ground_c g.result _ g.ensures k.out.now c.encode_ground-w.result _ c.encode_ground-w.ensures k.written.now _ _ c.tell.ensures
+    let g = c.ground_at in
+    written-so ground_c g.result _ g.ensures k.out.now c.encode_ground.result _ c.encode_ground.ensures k.written.now _ _ c.tell.ensures
