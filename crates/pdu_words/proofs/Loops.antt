@@ -2,35 +2,36 @@
 use mathlib.Core.Path.{◌≡◌, refl}
 use mathlib.Core.Bool.{Bool, true, false}
 use mathlib.Core.List.{List}
-use Prim.Native.Nat.{ℕ, ◌+◌, ◌*◌, ◌≤◌, ◌<◌, min}
-use native.Mathlib.Nat.{min-le_left}
+use Prim.Native.Nat.{ℕ, suc, ◌+◌, ◌*◌, ◌/◌, ◌%◌, ◌^◌, ◌≤◌, ◌<◌, min}
+use borrow.Author.Tests.{ltb-true, ltb-false, le-ltb}
+use Rattle.std.proofs.Math.Nat.{div-eq_of_lt, pow-le-pow_right}
 use native.Mathlib.Omega.{arith}
-use lib.Dec.{eqb}
-use lib.ListN.{length, get_or, take, drop, length-take, drop_of_length-le}
-use lib.Seq.{get_or-take}
+use lib.Dec.{eqb, ltb}
+use lib.ListN.{length, get_or, take, drop}
+use lib.Seq.{take_all, drop-cons}
+use Rattle.std.proofs.Common.{add-one}
 use Rattle.text.specs.Page.{Page, wrote, Writes}
 use Rattle.text.proofs.Laws.{next}
 use Rattle.text.proofs.Pages.{wrote-append}
 use Rattle.pdu_words.specs.Ways.{list, names, name_item, entry_item, items_text, way_text}
+use Rattle.pdu_words.specs.declared.rows.Row as code
 use Rattle.pdu_words.specs.CodeRows.{entries_of, item_of, octets_in, row_of, rows_of}
 use Rattle.pdu_words.specs.Names.{list_at}
 use Rattle.text.specs.Text.{pick}
 use Rattle.pdu_words.specs.Rows.{row_text, rows_text}
 
--- octet i of the first k, of which n are there
-module _ (item : ℕ → ℕ → List ℕ) (k n i : ℕ) (items : List ℕ) (are : n ≡ min k (length items)) where
-  pub item-step : {p q : Page} → i < n → Writes p (item i (get_or items i 0)) q
-      → wrote q (items_text item (i + 1) (drop (i + 1) (take k items))) ≡ wrote p (items_text item i (drop i (take k items)))
-  item-step {p} {q} h w =
-      let f : i < k = omega (arith, min-le_left k (length items)) in
-      let g : i < length (take k items) = rw (length-take k items, ← are) h in
-      rw (w.is, next (take k items) i g, get_or-take k items i 0 f)
-      (wrote-append p (item i (get_or items i 0)) (items_text item (i + 1) (drop (i + 1) (take k items))))
+-- as many octets as are there
+pub take-least : (xs : List ℕ) (k n : ℕ) → n ≡ min k (length xs) → take n xs ≡ take k xs
+take-least xs k n e = go (ltb k (length xs)) refl
+  where
+    go : (b : Bool) → ltb k (length xs) ≡ b → take n xs ≡ take k xs
+    go true f = let m : n ≡ k = omega (arith, e, ltb-true k (length xs) f) in rw m
+    go false f = let h = ltb-false k (length xs) f in rw (take_all n xs (omega (arith, e, h)), take_all k xs h)
 
-  pub item-end : (p : Page) → n ≤ i → wrote p (items_text item i (drop i (take k items))) ≡ p
-  item-end p h =
-      let g : length (take k items) ≤ i = rw (length-take k items, ← are) h in
-      rw (drop_of_length-le (take k items) g)
+-- octet i of a list
+pub item_step : (item : ℕ → ℕ → List ℕ) (xs : List ℕ) (i : ℕ) {p q : Page} → i < length xs → Writes p (item i (get_or xs i 0)) q
+    → wrote q (items_text item (i + 1) (drop (i + 1) xs)) ≡ wrote p (items_text item i (drop i xs))
+item_step item xs i {p} {q} h w = rw (w.is, next xs i h) (wrote-append p (item i (get_or xs i 0)) (items_text item (i + 1) (drop (i + 1) xs)))
 
 -- the entries of a list by its number
 pub entries-are : (l count : ℕ) (items : List ℕ) → items_text (item_of l) 0 (take (octets_in l count) items) ≡ way_text (entries_of l) count items
@@ -43,10 +44,13 @@ entries-are l count items = go (eqb l 0)
     go false = refl
 
 -- row i
-module _ (table f items : List ℕ) (i : ℕ) where
-  pub row_step : {p q : Page} → i < length table → Writes p (row_text (row_of (get_or table i 0)) f items) q
-      → wrote q (rows_text (rows_of (drop (i + 1) table)) f items) ≡ wrote p (rows_text (rows_of (drop i table)) f items)
-  row_step {p} {q} h w = rw (w.is, next table i h) (wrote-append p (row_text (row_of (get_or table i 0)) f items) (rows_text (rows_of (drop (i + 1) table)) f items))
+pub row_step : (table : List code.Row) (f items : List ℕ) (i : ℕ) (d : code.Row) {p q : Page} → i < length table → Writes p (row_text (row_of (get_or table i d)) f items) q
+    → wrote q (rows_text (rows_of (drop (i + 1) table)) f items) ≡ wrote p (rows_text (rows_of (drop i table)) f items)
+row_step table f items i d {p} {q} h w =
+    rw (w.is, add-one, drop-cons table i d h) (wrote-append p (row_text (row_of (get_or table i d)) f items) (rows_text (rows_of (drop (suc i) table)) f items))
 
-  pub row-end : (p : Page) → length table ≤ i → wrote p (rows_text (rows_of (drop i table)) f items) ≡ p
-  row-end p h = rw (drop_of_length-le table h)
+-- a number below 2^32 has no bit from 32 on
+pub no-bit : (n m : ℕ) → n < 2 ^ 32 → 32 ≤ m → ltb m 32 ≡ eqb (n / 2 ^ m % 2) 1
+no-bit n m h l =
+    let e : n / 2 ^ m ≡ 0 = div-eq_of_lt (omega (arith, h, pow-le-pow_right {n = 2} (omega arith) l)) in
+    rw (le-ltb m 32 l, e)

@@ -1,29 +1,38 @@
--- What the numbers in the code stand for: rows, and what they are made of. The proofs of `put_air` and `put_ground` compute that the code's rows are `air_rows` and
+-- What the rows in the code stand for, and what they are made of; words stand there by their numbers. The proofs of `put_air` and `put_ground` compute that the code's rows are `air_rows` and
 -- `ground_rows`, so that a reader of the words need not believe any of this.
-use Rattle.std.specs.Prelude.{List, [], ◌∷◌, ℕ, ◌*◌, ◌/◌, ◌%◌, ◌^◌, eqb}
+use Rattle.std.specs.Prelude.{List, [], ◌∷◌, ℕ, ◌*◌, ◌^◌, eqb}
 use Rattle.text.specs.Text.{pick}
 use Rattle.text.specs.Words.{word_at}
 use Rattle.pdu_words.specs.Names.{list_at, vocabulary}
 use Rattle.pdu_words.specs.Ways.{Way, nothing, number, two, three, seconds, tens, octets, nth, word, list, names, tenths, signed, thousandths, quarters, mach_steps, time_steps, name_item, entry_item}
-use Rattle.pdu_words.specs.Rows.{Test, any, bit, same, other, masked, Row}
+use Rattle.pdu_words.specs.Rows.{Guard, always, has, is, isnt, bits, Row}
+use Rattle.pdu_words.specs.declared.ways.Way as code
+use Rattle.pdu_words.specs.declared.ways.Way.TheVariants as ways
+use Rattle.pdu_words.specs.declared.rows.Guard as code-guard
+use Rattle.pdu_words.specs.declared.rows.Guard.TheVariants as guards
+use Rattle.pdu_words.specs.declared.rows.Row as code-row
 
--- ways by their numbers, with a list of words by its number. Entries of list 0 are names
+-- ways, with a list of words by its number. Entries of list 0 are names
 unfoldable pub entries_of : ℕ → Way
 entries_of l = pick (eqb l 0) names (list (list_at l))
 
-unfoldable pub way_of : ℕ → ℕ → Way
-way_of w l =
-    pick (eqb w 1) number
-    (pick (eqb w 2) two
-    (pick (eqb w 3) three
-    (pick (eqb w 4) seconds
-    (pick (eqb w 5) tens
-    (pick (eqb w 6) octets
-    (pick (eqb w 7) (word (list_at l))
-    (pick (eqb w 8) nth
-    (pick (eqb w 9) (entries_of l)
-    (pick (eqb w 10) tenths
-    (pick (eqb w 11) signed (pick (eqb w 12) thousandths (pick (eqb w 13) quarters (pick (eqb w 14) mach_steps (pick (eqb w 15) time_steps nothing))))))))))))))
+unfoldable pub way_of : code.Way → Way
+way_of ways.Nothing = nothing
+way_of ways.Number = number
+way_of ways.Two = two
+way_of ways.Three = three
+way_of ways.Seconds = seconds
+way_of ways.Tens = tens
+way_of ways.Octets = octets
+way_of (ways.Word l) = word (list_at l)
+way_of ways.Nth = nth
+way_of (ways.List l) = entries_of l
+way_of ways.Tenths = tenths
+way_of ways.Signed = signed
+way_of ways.Thousandths = thousandths
+way_of ways.Quarters = quarters
+way_of ways.MachSteps = mach_steps
+way_of ways.TimeSteps = time_steps
 
 -- of the octets of a list, by its number too: how one is shown, and how many `count` entries have
 unfoldable pub item_of : ℕ → ℕ → ℕ → List ℕ
@@ -32,25 +41,24 @@ item_of l i c = pick (eqb l 0) (name_item i c) (entry_item (list_at l) i c)
 unfoldable pub octets_in : ℕ → ℕ → ℕ
 octets_in l count = pick (eqb l 0) (count * 8) count
 
--- rows: digits of a number in hexadecimal, before its last k
-abbrev pub digits : ℕ → ℕ → ℕ → ℕ
-digits n k many = n / 16 ^ k % 16 ^ many
+unfoldable pub guard_of : code-guard.Guard → Guard
+guard_of guards.Always = always
+guard_of (guards.Bit p m) = has p (2 ^ m)
+guard_of (guards.Same p m) = is p m
+guard_of (guards.Other p m) = isnt p m
+guard_of (guards.Masked p b m) = bits p b m
 
--- tests: a number above 3 is a mask
-unfoldable pub test_of : ℕ → ℕ → Test
-test_of t m = pick (eqb t 0) any (pick (eqb t 1) (bit (2 ^ m)) (pick (eqb t 2) (same m) (pick (eqb t 3) (other m) (masked t m))))
-
-unfoldable pub row_of : ℕ → Row
-row_of n =
+unfoldable pub row_of : code-row.Row → Row
+row_of r =
     record {
-      kinds = n / 16 ^ 12;
-      guard = record { place = digits n 9 2; test = test_of (digits n 11 1) (digits n 8 1) };
-      label = word_at vocabulary (digits n 6 2);
-      way = way_of (digits n 5 1) (digits n 4 1);
-      place = digits n 2 2;
-      unit = word_at vocabulary (n % 16 ^ 2);
+      kinds = r.0;
+      guard = guard_of r.1;
+      label = word_at vocabulary r.2;
+      way = way_of r.3;
+      place = r.4;
+      unit = word_at vocabulary r.5;
     }
 
-abbrev pub rows_of : List ℕ → List Row
+abbrev pub rows_of : List code-row.Row → List Row
 rows_of [] = []
-rows_of (n ∷ ns) = row_of n ∷ rows_of ns
+rows_of (r ∷ rs) = row_of r ∷ rows_of rs

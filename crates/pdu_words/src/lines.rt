@@ -10,8 +10,7 @@ use text::put_byte;
 use text_lines::input::{Ended, finish, pull_line, shown, start};
 
 // What is said of a PDU.
-#[derive(Drop)]
-#[derive(Clone, Copy)]
+#[derive(Clone, Copy, PartialEq, Eq, Debug)]
 pub enum Task {
     // `ok HEX`, the octets written back from the value read, or `refused N`.
     Code,
@@ -28,7 +27,7 @@ fn put_answer(task: Task, out: &mut Page, at: usize, len: usize, line: &[u8]) ->
     put_byte(out, a, 10)
 }
 
-// Answers every line of the input. A proved loop has to end, so it counts down from a number that no run uses up. It states no result: which
+// Answers every line of the input. A proved loop has to end, so it has more turns than any run uses up. It states no result: which
 // octets a read brings, and that a write arrives, no contract can say.
 fn run(
     stdin: Stdin,
@@ -39,8 +38,7 @@ fn run(
 ) -> Ended {
     let mut at = 0;
     let mut input = start();
-    let mut turns: u64 = 18446744073709551615;
-    while turns > 0 {
+    for _ in 0..u64::MAX {
         let l = pull_line(stdin, input, at, chunk, line, out);
         input = l.input;
         at = l.at;
@@ -51,7 +49,6 @@ fn run(
             };
         }
         at = put_answer(task, out, at, l.len, line);
-        turns -= 1;
     }
     Ended { at, failed: true }
 }

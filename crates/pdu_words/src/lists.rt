@@ -6,22 +6,14 @@ ghost use Rattle.pdu_words.specs.CodeRows.{item_of, octets_in, entries_of};
 
 use crate::page::Page;
 use crate::words::put_listed;
-use text::{least, put_byte, put_octet, put_text};
+use text::{put_byte, put_octet, put_text};
 
 // An octet of a name that breaks no line and no list.
+#[tactic(auto, unfolding(crate::specs::Ways::plain))]
 fn is_plain(c: u8) -> bool
     ensures { result ≡ plain c }
 {
-    if c == b',' {
-        return false;
-    }
-    if c == b'\\' {
-        return false;
-    }
-    if c < 33 {
-        return false;
-    }
-    c < 127
+    c != b',' && c != b'\\' && 33 <= c && c < 127
 }
 
 // Any other is shown by its number.
@@ -77,12 +69,10 @@ fn octets_in(list: u8, count: u32) -> usize
 pub(crate) fn put_list(out: &mut Page, at: usize, list: u8, count: u32, items: &[u8]) -> usize
     ensures { Writes (page out.old at) (way_text (entries_of list) count items.now) (page out.new result) }
 {
-    let n = least(octets_in(list, count), items.len());
+    let n = octets_in(list, count).min(items.len());
     let mut a = at;
-    let mut i = 0;
-    while i < n {
-        a = put_item(out, a, list, i, items[i]);
-        i += 1;
+    for (i, c) in items[..n].iter().enumerate() {
+        a = put_item(out, a, list, i, *c);
     }
     a
 }

@@ -1,81 +1,81 @@
-// The interpreter of rows. A row is a number, read by its hexadecimal digits from the left: 3 the kinds that show it, a bit for each; 1 the test of its guard, 2 the
-// place and 1 the number that the test takes; 2 the label, a word; 1 the way in which a number is shown, 1 the list of words that the way takes, 2 the place of the number;
-// 2 the unit, a word. specs/AirRows.antt and specs/GroundRows.antt have the rows with names and texts, and the proofs compare.
-ghost use Rattle.std.specs.Prelude.{◌≡◌, ◌<◌};
+// The interpreter of rows. specs/AirRows.antt and specs/GroundRows.antt have the rows with texts in place of the numbers of words, and the proofs compare.
+ghost use Rattle.std.specs.Prelude.{◌≡◌, get_or};
 ghost use Rattle.text.specs.Page.{page, Writes};
 ghost use Rattle.pdu_words.specs.Rows.{shows_kind, passes, chosen, row_text, rows_text};
-ghost use Rattle.pdu_words.specs.CodeRows.{test_of, row_of, rows_of};
+ghost use Rattle.pdu_words.specs.CodeRows.{guard_of, row_of, rows_of};
 
 use crate::page::Page;
-use crate::ways::put_way;
+use crate::ways::{Way, put_way};
 use crate::words::put_name;
 use host_numbers::numbers::number;
 
-fn shows_kind(kinds: u64, kind: u32) -> bool
+// What is asked of a PDU's number at a place: nothing; that it has a bit; that it is some number; that it is not; that its bits in a mask are some number.
+#[derive(Clone, Copy)]
+pub(crate) enum Guard {
+    Always,
+    Bit(usize, u32),
+    Same(usize, u32),
+    Other(usize, u32),
+    Masked(usize, u32, u32),
+}
+
+// The kinds that show a row, a bit for each; its guard; its label, a word; the way in which a number is shown, and the place of the number; its unit, a word.
+#[derive(Clone, Copy)]
+pub(crate) struct Row(
+    pub(crate) u32,
+    pub(crate) Guard,
+    pub(crate) usize,
+    pub(crate) Way,
+    pub(crate) usize,
+    pub(crate) usize,
+);
+
+#[tactic(auto, unfolding(crate::specs::Rows::shows_kind))]
+fn shows_kind(kinds: u32, kind: u32) -> bool
     ensures { result ≡ shows_kind kinds kind }
 {
-    if kind < 12 {
-        return (kinds >> kind) % 2 == 1;
-    }
-    false
+    kind < 12 && (kinds >> kind) % 2 == 1
 }
 
-// Whether a number passes a guard's test: always, by a bit, where it is m, or where it is not. A test above 3 is a mask, and the number's bits in it are m.
-fn does_pass(test: u32, m: u32, n: u32) -> bool
-    requires { m < 16 }
-    ensures { result ≡ passes (test_of test m) n }
+#[tactic(auto, unfolding(crate::specs::Rows::passes, crate::specs::CodeRows::guard_of))]
+fn does_pass(guard: Guard, f: &[u32]) -> bool
+    ensures { result ≡ passes (guard_of guard).test (get_or f.now (guard_of guard).place 0) }
 {
-    match test {
-        0 => true,
-        1 => (n >> m) % 2 == 1,
-        2 => n == m,
-        3 => n != m,
-        _ => n & test == m,
+    match guard {
+        Guard::Always => true,
+        Guard::Bit(at, m) => m < 32 && (number(f, at) >> m) % 2 == 1,
+        Guard::Same(at, m) => number(f, at) == m,
+        Guard::Other(at, m) => number(f, at) != m,
+        Guard::Masked(at, mask, m) => number(f, at) & mask == m,
     }
 }
 
-fn is_chosen(row: u64, f: &[u32]) -> bool
+#[tactic(auto, unfolding(crate::specs::Rows::chosen, crate::specs::CodeRows::row_of))]
+fn is_chosen(row: Row, f: &[u32]) -> bool
     ensures { result ≡ chosen (row_of row) f.now }
 {
-    if shows_kind(row / 0x1000000000000, number(f, 0)) {
-        let n = number(f, (row / 0x1000000000 % 256) as usize);
-        return does_pass(
-            (row / 0x100000000000 % 16) as u32,
-            (row / 0x100000000 % 16) as u32,
-            n,
-        );
-    }
-    false
+    shows_kind(row.0, number(f, 0)) && does_pass(row.1, f)
 }
 
-fn put_row(out: &mut Page, at: usize, row: u64, f: &[u32], items: &[u8]) -> usize
+fn put_row(out: &mut Page, at: usize, row: Row, f: &[u32], items: &[u8]) -> usize
     ensures { Writes (page out.old at) (row_text (row_of row) f.now items.now) (page out.new result) }
 {
-    if is_chosen(row, f) {
-        let a = put_name(out, at, (row / 0x1000000 % 256) as usize);
-        let n = number(f, (row / 0x100 % 256) as usize);
-        let a = put_way(
-            out,
-            a,
-            row / 0x100000 % 16,
-            (row / 0x10000 % 16) as u8,
-            n,
-            items,
-        );
-        return put_name(out, a, (row % 256) as usize);
+    if !is_chosen(row, f) {
+        return at;
     }
-    at
+    let Row(_, _, label, way, place, unit) = row;
+    let a = put_name(out, at, label);
+    let a = put_way(out, a, way, number(f, place), items);
+    put_name(out, a, unit)
 }
 
 // Row after row, of those that are shown of the PDU with the numbers f and the list `items`.
-pub(crate) fn put_rows(out: &mut Page, at: usize, table: &[u64], f: &[u32], items: &[u8]) -> usize
+pub(crate) fn put_rows(out: &mut Page, at: usize, table: &[Row], f: &[u32], items: &[u8]) -> usize
     ensures { Writes (page out.old at) (rows_text (rows_of table.now) f.now items.now) (page out.new result) }
 {
     let mut a = at;
-    let mut i = 0;
-    while i < table.len() {
-        a = put_row(out, a, table[i], f, items);
-        i += 1;
+    for row in table {
+        a = put_row(out, a, *row, f, items);
     }
     a
 }

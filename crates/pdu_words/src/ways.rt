@@ -10,6 +10,27 @@ use crate::words::put_listed;
 use text::words::put_word;
 use text::{put_byte, put_decimal, put_hex, put_text};
 
+// The ways (specs/Ways.antt says what each is), with a list of words by its number; entries of list 0 are names.
+#[derive(Clone, Copy)]
+pub(crate) enum Way {
+    Nothing,
+    Number,
+    Two,
+    Three,
+    Seconds,
+    Tens,
+    Octets,
+    Word(u8),
+    Nth,
+    List(u8),
+    Tenths,
+    Signed,
+    Thousandths,
+    Quarters,
+    MachSteps,
+    TimeSteps,
+}
+
 // Its last two digits.
 fn put_two(out: &mut Page, at: usize, n: u32) -> usize
     ensures { Writes (page out.old at) (two_digits n) (page out.new result) }
@@ -181,26 +202,27 @@ fn put_nth(out: &mut Page, at: usize, n: u32) -> usize
     put_text(out, a, b" report")
 }
 
-// A number in one of the ways, which `way_of` (specs/CodeRows.antt) numbers. `list` is a list of words, and `items` are the octets of the PDU's list.
-pub(crate) fn put_way(out: &mut Page, at: usize, way: u64, list: u8, n: u32, items: &[u8]) -> usize
-    ensures { Writes (page out.old at) (way_text (way_of way list) n items.now) (page out.new result) }
+// A number in one of the ways. `items` are the octets of the PDU's list.
+#[tactic(auto, unfolding(crate::specs::Ways::way_text, crate::specs::CodeRows::way_of))]
+pub(crate) fn put_way(out: &mut Page, at: usize, way: Way, n: u32, items: &[u8]) -> usize
+    ensures { Writes (page out.old at) (way_text (way_of way) n items.now) (page out.new result) }
 {
     match way {
-        1 => put_decimal(out, at, n as u64),
-        2 => put_two(out, at, n),
-        3 => put_three(out, at, n),
-        4 => put_seconds(out, at, n),
-        5 => put_tens(out, at, n),
-        6 => put_octets(out, at, n),
-        7 => put_listed(out, at, list, n),
-        8 => put_nth(out, at, n),
-        9 => put_list(out, at, list, n, items),
-        10 => put_tenths(out, at, n),
-        11 => put_signed(out, at, n),
-        12 => put_thousandths(out, at, n),
-        13 => put_quarters(out, at, n),
-        14 => put_mach(out, at, n),
-        15 => put_time(out, at, n),
-        _ => at,
+        Way::Nothing => at,
+        Way::Number => put_decimal(out, at, n as u64),
+        Way::Two => put_two(out, at, n),
+        Way::Three => put_three(out, at, n),
+        Way::Seconds => put_seconds(out, at, n),
+        Way::Tens => put_tens(out, at, n),
+        Way::Octets => put_octets(out, at, n),
+        Way::Word(list) => put_listed(out, at, list, n),
+        Way::Nth => put_nth(out, at, n),
+        Way::List(list) => put_list(out, at, list, n, items),
+        Way::Tenths => put_tenths(out, at, n),
+        Way::Signed => put_signed(out, at, n),
+        Way::Thousandths => put_thousandths(out, at, n),
+        Way::Quarters => put_quarters(out, at, n),
+        Way::MachSteps => put_mach(out, at, n),
+        Way::TimeSteps => put_time(out, at, n),
     }
 }

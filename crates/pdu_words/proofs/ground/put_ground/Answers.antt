@@ -1,8 +1,8 @@
 use Rattle.pdu_words.specs.Names.{vocabulary, lists, list_at}
 use Rattle.pdu_words.specs.GroundRows.{ground_rows, ground_words}
-use Rattle.pdu_words.specs.CodeRows.{way_of, entries_of, test_of, row_of}
+use Rattle.pdu_words.specs.CodeRows.{way_of, entries_of, guard_of, row_of}
 use Rattle.pdu_words.proofs.ground.put_ground.Goals as goal
 
 pub returns : goal.returns
-unfolding ground_words ground_rows row_of test_of way_of entries_of vocabulary lists list_at
+unfolding ground_words ground_rows row_of guard_of way_of entries_of vocabulary lists list_at
 returns c = c.put_rows.ensures

@@ -1,24 +1,8 @@
-use borrow.Author.Tests.{ne_eqb}
 use Rattle.pdu_words.specs.Rows.{passes}
-use Rattle.pdu_words.specs.CodeRows.{test_of}
+use Rattle.pdu_words.specs.CodeRows.{guard_of}
+use Rattle.pdu_words.proofs.Loops.{no-bit}
 use Rattle.pdu_words.proofs.rows.does_pass.Goals as goal
 
-pub returns-in-0 : goal.returns-in-0
-unfolding passes test_of
-returns-in-0 c = rw c.in-0.is
-
-pub returns-in-1 : goal.returns-in-1
-unfolding passes test_of
-returns-in-1 c = rw c.in-1.is
-
-pub returns-in-2 : goal.returns-in-2
-unfolding passes test_of
-returns-in-2 c = rw c.in-2.is
-
-pub returns-in-3 : goal.returns-in-3
-unfolding passes test_of
-returns-in-3 c = rw c.in-3.is
-
-pub returns-in_default : goal.returns-in_default
-unfolding passes test_of
-returns-in_default c = rw (ne_eqb _ 0 c.in_default.in_default-own.rest.0.0.0.1, ne_eqb _ 1 c.in_default.in_default-own.rest.0.0.1, ne_eqb _ 2 c.in_default.in_default-own.rest.0.1, ne_eqb _ 3 c.in_default.in_default-own.rest.1)
+pub returns-else-m-lt32 : goal.returns-else-m-lt32
+unfolding passes guard_of
+returns-else-m-lt32 c = rw c.in-Bit.is (no-bit _ c.in-Bit.m (c.type_inv.f c.in-Bit.at).fits c.if-m-lt32.false)

@@ -1,18 +1,15 @@
-use mathlib.Core.Path.{refl, sym, ◌∙◌}
-use native.Mathlib.Omega.{arith}
-use Rattle.text.specs.Page.{page}
-use Rattle.pdu_words.proofs.Loops.{row_step, row-end}
+use mathlib.Core.Path.{refl, ◌∙◌}
+use lib.ListN.{drop_of_length-le}
+use Rattle.pdu_words.proofs.Loops.{row_step}
 use Rattle.pdu_words.proofs.rows.put_rows.Goals as goal
 
-pub loop-i-init : goal.loop-i-init
-loop-i-init c = (omega arith, refl)
+pub loop-row-init : goal.loop-row-init
+loop-row-init c = refl
 
-pub loop-i-preserved : goal.loop-i-preserved
-loop-i-preserved c = let k = c.loop-i in
-    let s = c.args in
-    (omega arith, row_step s.table.now s.f.now s.items.now k.i (omega (arith, c.loop-i-test.true)) c.put_row-a.ensures ∙ k.invariant.1)
+pub loop-row-preserved : goal.loop-row-preserved
+loop-row-preserved c = let s = c.args in
+    row_step s.table.now s.f.now s.items.now c.loop-row.row-index _ c.loop-row-test.true c.put_row-a.ensures ∙ c.loop-row.invariant
 
 pub returns : goal.returns
-returns c = let k = c.loop-i in
-    let s = c.args in
-    record { is = sym (row-end s.table.now s.f.now s.items.now k.i (page k.out k.a) (omega (arith, c.loop-i-test.false))) ∙ k.invariant.1 }
+returns c = let e = drop_of_length-le c.args.table.now c.loop-row-test.false in
+    record { is = rw e at c.loop-row.invariant }
