@@ -14,12 +14,11 @@ fn put_answer(out: &mut Page, at: usize, len: usize, line: &[u8]) -> usize {
     put_byte(out, a, 10)
 }
 
-// Answers every line of the input. A proved loop has to end, so it counts down from a number that no run uses up.
+// Answers every line of the input. A proved loop has to end, so it has more turns than any run uses up.
 fn run(stdin: Stdin, chunk: &mut [u8; 65536], line: &mut [u8; 4097], out: &mut Page) -> Ended {
     let mut at = 0;
     let mut input = start();
-    let mut turns: u64 = 18446744073709551615;
-    while turns > 0 {
+    for _ in 0..u64::MAX {
         let l = pull_line(stdin, input, at, chunk, line, out);
         input = l.input;
         at = l.at;
@@ -30,7 +29,6 @@ fn run(stdin: Stdin, chunk: &mut [u8; 65536], line: &mut [u8; 4097], out: &mut P
             };
         }
         at = put_answer(out, at, l.len, line);
-        turns -= 1;
     }
     Ended { at, failed: true }
 }
