@@ -10,7 +10,7 @@ use Rattle.pdu_parts.specs.declared.lists.Listed.{Listed}
 use Rattle.pdu_parts.specs.Lists.{no_list}
 use Rattle.link.specs.Tests.{below}
 use Rattle.link.specs.Names.{timers, LI}
-use Rattle.link.specs.Moves.{li_to}
+use Rattle.link.specs.Moves.{li_to, does_go}
 use Rattle.link.specs.Watch.{seconds_ok}
 use Rattle.link.specs.Acts.{pushed_all}
 use Rattle.link.specs.Clock.{not_due}
@@ -79,7 +79,7 @@ module _ (l : AirLink) (f : Fine l) where
   may-move k (stays_open h) = busy-set l.at 2 f.states refl
 
   -- and then the table's
-  went-fits : (k e entry : ℕ) → Way l.at k → eqb (move_at l k e).fate 0 ≡ true → Fits air_tables v (went_parts l k e entry)
+  went-fits : (k e entry : ℕ) → Way l.at k → does_go (move_at l k e) ≡ true → Fits air_tables v (went_parts l k e entry)
   unfolding move_at
   went-fits k e entry w g =
       let li = li-balanced k w in

@@ -15,6 +15,7 @@ use Rattle.link.specs.Tests.{both, pick, below}
 use Rattle.link.specs.Names.{timers, DATA-REQUEST, ABORT-REQUEST, ABORT-IND, PEER-ABORT-IND}
 use Rattle.link.specs.Watch.{li_is}
 use Rattle.link.specs.Clock.{not_due}
+use Rattle.link.specs.Moves.{does_go}
 use Rattle.link.proofs.Laws.{both_left, eq-T, pick-case, pick_same, allowed-case}
 use Rattle.sides.specs.Runs.{seconds}
 use Rattle.air_tables.specs.Names.{LI-IDLE, LI-START, LI-ACTIVE}
@@ -45,7 +46,7 @@ pub record Kinds (l : AirLink) (P : ℕ → Answer → Type 0) : Type 0 where
   pub stays : (n : ℕ) → eqb n 0 ≡ false → P 0 (refusal l n)
   pub aborts : (n s : ℕ) → T (good l) → P s (aborted l n)
   pub closes : (entry reason : ℕ) → T (good l) → P 0 (closed l entry reason)
-  pub goes : (k e entry : ℕ) (s : Sent) → T (good l) → Way l.at k → eqb (move_at l k e).fate 0 ≡ true
+  pub goes : (k e entry : ℕ) (s : Sent) → T (good l) → Way l.at k → does_go (move_at l k e) ≡ true
       → P 0 (tells l (played l (went_parts l k e entry)) 0 s)
   pub ends : (told : Bool) (s : Sent) → T (good l) → T (li_is l.at LI-ACTIVE) → P 0 (ended l told s)
   pub waits : (n : ℕ) → T (good l) → T (below timers (not_due n l.left)) → P n (waited l n)
@@ -63,7 +64,7 @@ module _ (l : AirLink) (P : ℕ → Answer → Type 0) (k : Kinds l P) where
   asking : (a : AirPdu) (entry : ℕ) → T (li_busy l.at) → T (good l) → P 0 (asked l a entry)
   unfolding asked
   asking a entry b ok =
-      pick-case (P 0) (eqb (move_at l LI-ACTIVE (request_event a.kind)).fate 0)
+      pick-case (P 0) (does_go (move_at l LI-ACTIVE (request_event a.kind)))
       (λ f. pick-case (P 0) (eqb (outgoing a).refusal 0) (λ r. k.goes LI-ACTIVE (request_event a.kind) entry (outgoing a).sent ok (stays_open b) f) (λ r. k.stays (outgoing a).refusal r))
       (λ f. k.stays 1 refl)
 
@@ -80,7 +81,7 @@ module _ (l : AirLink) (P : ℕ → Answer → Type 0) (k : Kinds l P) where
   unfolding taken passed
   taking i (got g) ok w =
       pick-case (P 0) (may_come i (uplink_event g))
-      (λ m. pick-case (P 0) (eqb (move_at l i (uplink_event g)).fate 0) (λ f. k.goes i (uplink_event g) DATA-REQUEST (ack_of (move_at l i (uplink_event g))) ok w f) (λ f. k.aborts 3 0 ok))
+      (λ m. pick-case (P 0) (does_go (move_at l i (uplink_event g))) (λ f. k.goes i (uplink_event g) DATA-REQUEST (ack_of (move_at l i (uplink_event g))) ok w f) (λ f. k.aborts 3 0 ok))
       (λ m. k.aborts 2 0 ok)
   taking i (refused n) ok w = k.aborts 2 0 ok
 

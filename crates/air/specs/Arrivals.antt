@@ -7,8 +7,8 @@ use Rattle.pdu.specs.DownlinkTable.{bare_air}
 use Rattle.pdu.specs.declared.uplink.Ground.{Ground}
 use Rattle.pdu.specs.UplinkTable.{ground_tag, ground_c}
 use Rattle.link.specs.Tests.{pick}
-use Rattle.link.specs.Names.{EC, DATA-REQUEST, GOES}
-use Rattle.link.specs.Moves.{li_to}
+use Rattle.link.specs.Names.{EC, DATA-REQUEST}
+use Rattle.link.specs.Moves.{li_to, does_go}
 use Rattle.link.specs.Watch.{li_is}
 use Rattle.link.specs.declared.moves.Move.{Move}
 use Rattle.sides.specs.Runs.{Part}
@@ -32,7 +32,7 @@ ack_of m = pick m.send (outgoing (bare_air (Positive (pick (eqb m.who EC) 3 4)))
 -- LI goes to k, and the module's row is played; what is not listed is abort 3 (002:6122 "sequence-error")
 unfoldable pub passed : AirLink → ℕ → ℕ → Answer
 passed l k e =
-    pick (eqb (move_at l k e).fate GOES) (tells l (played l (went_parts l k e DATA-REQUEST)) 0 (ack_of (move_at l k e))) (aborted l SEQUENCE-ERROR)
+    pick (does_go (move_at l k e)) (tells l (played l (went_parts l k e DATA-REQUEST)) 0 (ack_of (move_at l k e))) (aborted l SEQUENCE-ERROR)
 
 -- what does not read, or may not come there, is abort 2 (002:6106, 6110 "invalid-PDU")
 unfoldable pub taken : AirLink → ℕ → per.Answer Ground → Answer

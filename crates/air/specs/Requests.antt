@@ -2,8 +2,9 @@
 use Rattle.std.specs.Prelude.{not, ℕ, eqb}
 use Rattle.pdu.specs.declared.downlink.AirPdu.{AirPdu}
 use Rattle.link.specs.Tests.{both, pick}
-use Rattle.link.specs.Names.{DATA-REQUEST, ABORT-REQUEST, GOES}
+use Rattle.link.specs.Names.{DATA-REQUEST, ABORT-REQUEST}
 use Rattle.link.specs.Watch.{li_is}
+use Rattle.link.specs.Moves.{does_go}
 use Rattle.air_tables.specs.Names.{LI-IDLE, LI-START, LI-ACTIVE}
 use Rattle.air_answer.specs.Record.{played, move_at, went_parts}
 use Rattle.air_answer.specs.declared.record.AirLink.{AirLink}
@@ -17,7 +18,7 @@ use Rattle.refusals.specs.Refusals.{NOT-PERMITTED}
 -- a module's request or response, with LI ACTIVE from then on: 1 where no row has it, then what its fields are refused with, else the move
 unfoldable pub asked : AirLink → AirPdu → ℕ → Answer
 asked l a entry =
-    pick (eqb (move_at l LI-ACTIVE (request_event a.kind)).fate GOES)
+    pick (does_go (move_at l LI-ACTIVE (request_event a.kind)))
     (pick (eqb (outgoing a).refusal 0)
     (tells l (played l (went_parts l LI-ACTIVE (request_event a.kind) entry)) 0 (outgoing a).sent)
     (refusal l (outgoing a).refusal))

@@ -12,7 +12,7 @@ use air_answer::sent::{Sent, nothing, own};
 use air_tables::decide::{decide, halt, halt_em, li_answer};
 use air_tables::names::*;
 use link::actions::*;
-use link::executor::{begin, perform};
+use link::executor::Step;
 use link::moves::*;
 use pdu::decode_ground;
 use pdu::downlink::Air;
@@ -21,6 +21,7 @@ use pdu::uplink::Ground;
 use refusals::{BAD_RECORD, CANNOT_OCCUR};
 
 // The ack of a cancel, where the move sends.
+#[tactic(auto, unfolding(crate::specs::Arrivals::ack_of))]
 fn ack_of(m: Move) -> Sent
     ensures { result ≡ ack_of m }
 {
@@ -34,20 +35,20 @@ fn ack_of(m: Move) -> Sent
 }
 
 // Data for the modules, with LI then at `li`: what is not listed is abort 3.
+#[tactic(auto, unfolding(crate::specs::Arrivals::passed, air_answer::specs::Record::move_at, air_answer::specs::Record::played, sides::specs::Runs::performed_all, link::specs::Step::performed, link::specs::Step::begun))]
 fn pass(l: AirLink, li: u8, event: u8) -> Answer
     ensures { result ≡ passed l li event }
 {
     let first = turn(l, li);
-    let at = first.at;
-    let m = decide(at, event);
-    let fate = m.fate;
-    if fate != GOES {
+    let m = decide(first.at, event);
+    if m.fate != Fate::Goes {
         return abort(l, SEQUENCE_ERROR);
     }
-    tell(l, perform(first, m, most_of(l), DATA_REQUEST), 0, ack_of(m))
+    tell(l, first.perform(m, most_of(l), DATA_REQUEST), 0, ack_of(m))
 }
 
 // A value is taken only when the reading is good and it may come; otherwise abort 2.
+#[tactic(auto, unfolding(crate::specs::Arrivals::taken))]
 fn take(l: AirLink, li: u8, octets: &[u8]) -> Answer
     ensures { result ≡ taken l li (read_pdu ground_c octets.now) }
 {
@@ -62,48 +63,50 @@ fn take(l: AirLink, li: u8, octets: &[u8]) -> Answer
 }
 
 // The ground's start, with its data.
+#[tactic(auto, unfolding(crate::specs::Arrivals::indicated))]
 pub fn start_ind(l: AirLink, octets: &[u8]) -> Answer
     ensures { result ≡ indicated l octets.now }
 {
     if !is_good(l) {
         return refuse(l, BAD_RECORD);
     }
-    let at = l.at;
-    if at[4] != LI_IDLE {
+    if l.at[4] != LI_IDLE {
         return refuse(l, CANNOT_OCCUR);
     }
     take(l, LI_START, octets)
 }
 
+#[tactic(auto, unfolding(crate::specs::Arrivals::arrived))]
 pub fn data(l: AirLink, octets: &[u8]) -> Answer
     ensures { result ≡ arrived l octets.now }
 {
     if !is_good(l) {
         return refuse(l, BAD_RECORD);
     }
-    let at = l.at;
-    match at[4] {
+    match l.at[4] {
         LI_ACTIVE => take(l, LI_ACTIVE, octets),
         _ => refuse(l, CANNOT_OCCUR),
     }
 }
 
 // The end response, with an indication where the user is told; then the modules stop, and LI is IDLE.
+#[tactic(auto, unfolding(crate::specs::Arrivals::ended, crate::specs::Arrivals::end_parts, air_tables::specs::Moves::halts, air_answer::specs::Record::played, sides::specs::Runs::performed_all))]
 fn end(l: AirLink, told: bool, sent: Sent) -> Answer
     ensures { result ≡ ended l told sent }
 {
-    let at = l.at;
-    let left = l.left;
     let most = most_of(l);
-    let a = perform(begin(at, left), li_answer(told), most, END_RESPONSE);
-    let b = perform(a, halt(DC), most, 0);
-    let c = perform(b, halt(EC), most, 0);
-    let d = perform(c, halt(PC), most, 0);
-    let e = perform(d, halt_em(at[3]), most, 0);
-    tell(l, perform(e, li_to(LI_IDLE), most, 0), 0, sent)
+    let step = Step::begin(l.at, l.left)
+        .perform(li_answer(told), most, END_RESPONSE)
+        .perform(halt(DC), most, 0)
+        .perform(halt(EC), most, 0)
+        .perform(halt(PC), most, 0)
+        .perform(halt_em(l.at[3]), most, 0)
+        .perform(li_to(LI_IDLE), most, 0);
+    tell(l, step, 0, sent)
 }
 
 // The data of an end indication: cancel-all, or abort 2.
+#[tactic(auto, unfolding(crate::specs::Arrivals::all_cancelled))]
 fn cancel_all(l: AirLink, octets: &[u8]) -> Answer
     ensures { result ≡ all_cancelled l (read_pdu ground_c octets.now) }
 {
@@ -116,17 +119,17 @@ fn cancel_all(l: AirLink, octets: &[u8]) -> Answer
     }
 }
 
+#[tactic(auto, unfolding(crate::specs::Arrivals::end_indicated))]
 pub fn end_ind(l: AirLink, octets: &[u8]) -> Answer
     ensures { result ≡ end_indicated l octets.now }
 {
     if !is_good(l) {
         return refuse(l, BAD_RECORD);
     }
-    let at = l.at;
-    if at[4] != LI_ACTIVE {
+    if l.at[4] != LI_ACTIVE {
         return refuse(l, CANNOT_OCCUR);
     }
-    if octets.len() == 0 {
+    if octets.is_empty() {
         return end(l, false, nothing());
     }
     cancel_all(l, octets)

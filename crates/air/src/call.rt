@@ -25,6 +25,7 @@ pub enum Call {
     Down,
 }
 
+#[tactic(auto, unfolding(crate::specs::Runs::answered))]
 pub fn answer(l: AirLink, call: Call, list: Listed, octets: &[u8]) -> Answer
     ensures { result ≡ answered l call list octets.now }
 {

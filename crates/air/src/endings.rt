@@ -14,14 +14,15 @@ use pdu::decode_ground;
 use pdu::reasons::{PROVIDER_FAILURE, UNDEFINED_ERROR};
 use refusals::CANNOT_OCCUR;
 
+#[tactic(auto, unfolding(crate::specs::Endings::peer_aborted))]
 pub fn peer_abort(l: AirLink) -> Answer
     ensures { result ≡ peer_aborted l }
 {
-    let at = l.at;
-    close_when(l, at[4] != LI_IDLE, CANNOT_OCCUR, PEER_ABORT_IND, 0)
+    close_when(l, l.at[4] != LI_IDLE, CANNOT_OCCUR, PEER_ABORT_IND, 0)
 }
 
 // The reason in an abort's octets; 6 where they are no provider abort that reads well.
+#[tactic(auto, unfolding(crate::specs::Endings::reason_of))]
 fn reason_of(octets: &[u8]) -> u32
     ensures { result ≡ reason_of (read_pdu ground_c octets.now) }
 {
@@ -32,22 +33,22 @@ fn reason_of(octets: &[u8]) -> u32
 }
 
 // The ground's provider aborts.
+#[tactic(auto, unfolding(crate::specs::Endings::ground_aborted))]
 pub fn ground_abort(l: AirLink, octets: &[u8]) -> Answer
     ensures { result ≡ ground_aborted l octets.now }
 {
-    let at = l.at;
     let reason = reason_of(octets);
-    close_when(l, at[4] != LI_IDLE, CANNOT_OCCUR, ABORT_IND, reason)
+    close_when(l, l.at[4] != LI_IDLE, CANNOT_OCCUR, ABORT_IND, reason)
 }
 
 // The provider below fails.
+#[tactic(auto, unfolding(crate::specs::Endings::failed))]
 pub fn down(l: AirLink) -> Answer
     ensures { result ≡ failed l }
 {
-    let at = l.at;
     close_when(
         l,
-        at[4] != LI_IDLE,
+        l.at[4] != LI_IDLE,
         CANNOT_OCCUR,
         ABORT_IND,
         PROVIDER_FAILURE,

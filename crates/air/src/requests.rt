@@ -10,57 +10,46 @@ use air_answer::sent::write;
 use air_tables::decide::decide;
 use air_tables::names::*;
 use link::actions::*;
-use link::executor::perform;
-use link::moves::GOES;
+use link::moves::Fate;
 use pdu::downlink::AirPdu;
 use refusals::{BAD_RECORD, NOT_PERMITTED};
 
 // A module's request or response, with `entry` for the PDU: 1 before the refusals of its fields.
+#[tactic(auto, unfolding(crate::specs::Requests::asked, air_answer::specs::Record::move_at, air_answer::specs::Record::played, sides::specs::Runs::performed_all, link::specs::Step::performed, link::specs::Step::begun))]
 fn ask(l: AirLink, a: AirPdu, entry: u8) -> Answer
     ensures { result ≡ asked l a entry }
 {
     let first = turn(l, LI_ACTIVE);
-    let at = first.at;
-    let kind = a.kind;
-    let m = decide(at, request_event(kind));
-    let fate = m.fate;
-    if fate != GOES {
+    let m = decide(first.at, request_event(a.kind));
+    if m.fate != Fate::Goes {
         return refuse(l, NOT_PERMITTED);
     }
     let w = write(a);
-    let refusal = w.refusal;
-    if refusal != 0 {
-        return refuse(l, refusal);
+    if w.refusal != 0 {
+        return refuse(l, w.refusal);
     }
-    let sent = w.sent;
-    tell(l, perform(first, m, most_of(l), entry), 0, sent)
+    tell(l, first.perform(m, most_of(l), entry), 0, w.sent)
 }
 
 // A request or response: in ACTIVE a data request; in START what may open the link is the start response.
+#[tactic(auto, unfolding(crate::specs::Requests::requested))]
 pub fn request(l: AirLink, a: AirPdu) -> Answer
     ensures { result ≡ requested l a }
 {
     if !is_good(l) {
         return refuse(l, BAD_RECORD);
     }
-    let at = l.at;
-    if at[4] == LI_ACTIVE {
-        return ask(l, a, DATA_REQUEST);
+    match l.at[4] {
+        LI_ACTIVE => ask(l, a, DATA_REQUEST),
+        LI_START if may_open(a.kind) => ask(l, a, START_RESPONSE),
+        _ => refuse(l, NOT_PERMITTED),
     }
-    if at[4] != LI_START {
-        return refuse(l, NOT_PERMITTED);
-    }
-    let kind = a.kind;
-    if !may_open(kind) {
-        return refuse(l, NOT_PERMITTED);
-    }
-    ask(l, a, START_RESPONSE)
 }
 
 // No PDU goes, and the user is told nothing.
+#[tactic(auto, unfolding(crate::specs::Requests::user_aborted))]
 pub fn user_abort(l: AirLink) -> Answer
     ensures { result ≡ user_aborted l }
 {
-    let at = l.at;
-    close_when(l, at[4] != LI_IDLE, NOT_PERMITTED, ABORT_REQUEST, 0)
+    close_when(l, l.at[4] != LI_IDLE, NOT_PERMITTED, ABORT_REQUEST, 0)
 }

@@ -5,27 +5,28 @@ ghost use Rattle.air_answer.specs.Aborts.{closed, aborted, closed_when};
 use crate::answer::*;
 use crate::record::{AirLink, is_good};
 use crate::sent::{nothing, own};
-use link::executor::{abort_all, stop_then};
+use link::executor::Step;
 use pdu::downlink::Air;
 use refusals::BAD_RECORD;
 
 // One entry after the stops, and the reason that it shows.
+#[tactic(auto, unfolding(crate::specs::Aborts::closed))]
 fn close(l: AirLink, entry: u8, reason: u32) -> Answer
     ensures { result ≡ closed l entry reason }
 {
-    let left = l.left;
-    tell(l, stop_then(left, entry), reason, nothing())
+    tell(l, Step::stop_then(l.left, entry), reason, nothing())
 }
 
 // Stops, abort request with the aircraft's provider abort, abort indication, all IDLE.
+#[tactic(auto, unfolding(crate::specs::Aborts::aborted))]
 pub fn abort(l: AirLink, reason: u32) -> Answer
     ensures { result ≡ aborted l reason }
 {
-    let left = l.left;
-    tell(l, abort_all(left), reason, own(Air::Abort(reason)))
+    tell(l, Step::abort_all(l.left), reason, own(Air::Abort(reason)))
 }
 
 // Everything stops where it may; where not, the call is refused.
+#[tactic(auto, unfolding(crate::specs::Aborts::closed_when))]
 pub fn close_when(l: AirLink, may: bool, number: u8, entry: u8, reason: u32) -> Answer
     ensures { result ≡ closed_when l may number entry reason }
 {

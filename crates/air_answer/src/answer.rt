@@ -4,7 +4,7 @@ ghost use Rattle.air_answer.specs.Answers.{refusal, tells};
 
 use crate::record::{AirLink, follow};
 use crate::sent::{Sent, nothing};
-use link::acts::{Acts, none};
+use link::acts::Acts;
 use link::executor::Step;
 
 // Entries of an action list beside link's own.
@@ -32,28 +32,28 @@ pub struct Answer {
 pub fn refuse(l: AirLink, number: u8) -> Answer
     ensures { result ≡ refusal l number }
 {
-    let acts = none();
-    let sent = nothing();
-    let said = Said {
-        refusal: number,
-        reason: 0,
-        acts,
-        sent,
-    };
-    Answer { link: l, said }
+    Answer {
+        link: l,
+        said: Said {
+            refusal: number,
+            reason: 0,
+            acts: Acts::none(),
+            sent: nothing(),
+        },
+    }
 }
 
 // An accepted call, by the step that it makes.
 pub fn tell(l: AirLink, s: Step, reason: u32, sent: Sent) -> Answer
     ensures { result ≡ tells l s reason sent }
 {
-    let link = follow(l, s);
-    let acts = s.acts;
-    let said = Said {
-        refusal: 0,
-        reason,
-        acts,
-        sent,
-    };
-    Answer { link, said }
+    Answer {
+        link: follow(l, s),
+        said: Said {
+            refusal: 0,
+            reason,
+            acts: s.acts,
+            sent,
+        },
+    }
 }

@@ -7,11 +7,12 @@ use crate::answer::*;
 use crate::record::{AirLink, is_good};
 use crate::sent::nothing;
 use link::clock::{ELAPSE_MOST, after, none_due};
-use link::executor::begin;
+use link::executor::Step;
 use pdu::reasons::TIMER_EXPIRY;
 use refusals::{BAD_RECORD, ELAPSE_OVER};
 
 // An elapse of n seconds.
+#[tactic(auto, unfolding(crate::specs::Clock::elapsed, crate::specs::Clock::waited))]
 pub fn elapse(l: AirLink, n: u32) -> Answer
     ensures { result ≡ elapsed l n }
 {
@@ -21,10 +22,8 @@ pub fn elapse(l: AirLink, n: u32) -> Answer
     if ELAPSE_MOST < n {
         return refuse(l, ELAPSE_OVER);
     }
-    let at = l.at;
-    let left = l.left;
-    if none_due(n, left) {
-        tell(l, begin(at, after(n, left)), 0, nothing())
+    if none_due(n, l.left) {
+        tell(l, Step::begin(l.at, after(n, l.left)), 0, nothing())
     } else {
         abort(l, TIMER_EXPIRY)
     }

@@ -8,6 +8,7 @@ use pdu::downlink::Air;
 use pdu::reasons::UNDEFINED_ERROR;
 use pdu::uplink::Ground;
 
+#[tactic(auto, unfolding(crate::specs::Events::negative_event))]
 fn negative_event(request: u32) -> u8
     ensures { result ≡ negative_event request }
 {
@@ -20,6 +21,7 @@ fn negative_event(request: u32) -> u8
     }
 }
 
+#[tactic(auto, unfolding(crate::specs::Events::positive_event))]
 fn positive_event(request: u32) -> u8
     ensures { result ≡ positive_event request }
 {
@@ -30,6 +32,7 @@ fn positive_event(request: u32) -> u8
     }
 }
 
+#[tactic(auto, unfolding(crate::specs::Events::unmet_event))]
 fn unmet_event(kind: u32) -> u8
     ensures { result ≡ unmet_event kind }
 {
@@ -42,6 +45,7 @@ fn unmet_event(kind: u32) -> u8
 }
 
 // What the user asks or answers.
+#[tactic(auto, unfolding(crate::specs::Events::request_event))]
 pub fn request_event(a: Air) -> u8
     ensures { result ≡ request_event a }
 {
@@ -59,16 +63,14 @@ pub fn request_event(a: Air) -> u8
 }
 
 // Whether a PDU may go as the start response.
+#[tactic(auto, unfolding(crate::specs::Events::opens))]
 pub fn may_open(a: Air) -> bool
     ensures { result ≡ opens a }
 {
-    match a {
-        Air::CancelEmergency => false,
-        Air::Emergency(_) => false,
-        _ => true,
-    }
+    !matches!(a, Air::CancelEmergency | Air::Emergency(_))
 }
 
+#[tactic(auto, unfolding(crate::specs::Events::cancel_event))]
 fn cancel_event(contract: u32) -> u8
     ensures { result ≡ cancel_event contract }
 {
@@ -80,6 +82,7 @@ fn cancel_event(contract: u32) -> u8
 }
 
 // Data from the ground.
+#[tactic(auto, unfolding(crate::specs::Events::uplink_event))]
 pub fn uplink_event(g: Ground) -> u8
     ensures { result ≡ uplink_event g }
 {
@@ -96,22 +99,18 @@ pub fn uplink_event(g: Ground) -> u8
 }
 
 // Whether data may come where LI then goes to `li`: with a start indication a contract alone.
+#[tactic(auto, unfolding(crate::specs::Events::may_come))]
 pub fn may_come(li: u8, event: u8) -> bool
     ensures { result ≡ may_come li event }
 {
     if li != LI_START {
         return event != NO_DATA;
     }
-    if event == DC_CONTRACT {
-        return true;
-    }
-    if event == OF_EC + CONTRACT {
-        return true;
-    }
-    event == OF_PC + CONTRACT
+    event == DC_CONTRACT || event == OF_EC + CONTRACT || event == OF_PC + CONTRACT
 }
 
 // The reason that a provider abort gives; any other PDU gives none that is known.
+#[tactic(auto, unfolding(crate::specs::Events::reason_in))]
 pub fn reason_in(g: Ground) -> u32
     ensures { result ≡ reason_in g }
 {

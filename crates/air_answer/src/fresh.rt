@@ -16,6 +16,7 @@ pub struct Opened {
 }
 
 // Everything IDLE, no timer running.
+#[tactic(auto, unfolding(crate::specs::Record::fresh, link::specs::Step::rest_at))]
 pub fn idle_link(setting: u32) -> AirLink
     ensures { result ≡ fresh setting }
 {
@@ -23,6 +24,7 @@ pub fn idle_link(setting: u32) -> AirLink
 }
 
 // A link from EM3's setting, 1..86,400 seconds.
+#[tactic(auto, unfolding(crate::specs::Fresh::opened))]
 pub fn open(setting: u32) -> Opened
     ensures { result ≡ opened setting }
 {

@@ -6,7 +6,7 @@ ghost use Rattle.air_answer.specs.Record.{made, loads, good, followed, part, pla
 
 use air_tables::names::*;
 use air_tables::watch::watch;
-use link::executor::{Step, begin, perform};
+use link::executor::Step;
 use link::moves::{TIMERS, li_to};
 use link::watch::{all_idle, setting_ok, states_ok, timers_ok};
 
@@ -26,6 +26,7 @@ pub fn make(setting: u32, left: [u32; TIMERS], at: [u8; 5]) -> AirLink
 }
 
 // What a start of each timer loads: EM3 its setting; the others are never started.
+#[tactic(auto, unfolding(crate::specs::Record::loads))]
 pub fn most_of(l: AirLink) -> [u32; TIMERS]
     ensures { result ≡ loads l }
 {
@@ -36,48 +37,36 @@ pub fn most_of(l: AirLink) -> [u32; TIMERS]
 }
 
 // The link after a step.
+#[tactic(auto, unfolding(crate::specs::Record::followed))]
 pub fn follow(l: AirLink, s: Step) -> AirLink
     ensures { result ≡ followed l s }
 {
-    let setting = l.setting;
-    let left = s.left;
-    let at = s.at;
-    make(setting, left, at)
+    let Step { left, at, .. } = s;
+    AirLink { left, at, ..l }
 }
 
 // LI's own move to a state, the first of a call.
+#[tactic(auto, unfolding(crate::specs::Record::played, sides::specs::Runs::performed_all))]
 pub fn turn(l: AirLink, li: u8) -> Step
     ensures { result ≡ played l (part l (li_to li) 0 ∷ []) }
 {
-    let at = l.at;
-    let left = l.left;
-    perform(begin(at, left), li_to(li), most_of(l), 0)
+    Step::begin(l.at, l.left).perform(li_to(li), most_of(l), 0)
 }
 
+#[tactic(auto, unfolding(air_tables::specs::Tables::li_ok))]
 fn li_ok(at: [u8; 5]) -> bool
     ensures { result ≡ li_ok at }
 {
-    if at[4] == LI_IDLE {
-        return all_idle(at);
-    }
-    true
+    if at[4] == LI_IDLE { all_idle(at) } else { true }
 }
 
 // Whether a link record is good; one that isn't is refusal 29.
+#[tactic(auto, unfolding(crate::specs::Record::good, sides::specs::Runs::timers_ok, sides::specs::Tables::states_ok, air_tables::specs::Tables::air_tables, air_tables::specs::Tables::tops))]
 pub fn is_good(l: AirLink) -> bool
     ensures { result ≡ good l }
 {
-    let setting = l.setting;
-    let left = l.left;
-    let at = l.at;
-    if !setting_ok(setting) {
-        return false;
-    }
-    if !states_ok(TOPS, at) {
-        return false;
-    }
-    if !li_ok(at) {
-        return false;
-    }
-    timers_ok(watch(), at, left, most_of(l))
+    setting_ok(l.setting)
+        && states_ok(TOPS, l.at)
+        && li_ok(l.at)
+        && timers_ok(watch(), l.at, l.left, most_of(l))
 }

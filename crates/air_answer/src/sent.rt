@@ -40,10 +40,10 @@ pub fn write(a: AirPdu) -> Outgoing
     let mut octets = [0u8; ROOM];
     let w = encode_air(a, &mut octets);
     match w {
-        Ok(n) => {
-            let sent = Sent { n, octets };
-            Outgoing { refusal: 0, sent }
-        }
+        Ok(n) => Outgoing {
+            refusal: 0,
+            sent: Sent { n, octets },
+        },
         Err(refusal) => {
             let sent = nothing();
             Outgoing {

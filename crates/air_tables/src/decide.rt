@@ -10,6 +10,7 @@ ghost use Rattle.air_tables.specs.Tables.{air_tables};
 use crate::names::*;
 use link::moves::*;
 
+#[tactic(auto, unfolding(crate::specs::Moves::dc_move, crate::specs::Moves::dc_rows))]
 fn dc_move(state: u8, kind: u8) -> Move
     ensures { result ≡ dc_move state kind }
 {
@@ -32,6 +33,7 @@ fn dc_move(state: u8, kind: u8) -> Move
 }
 
 // EC and PC.
+#[tactic(auto, unfolding(crate::specs::Moves::contract_move, crate::specs::Moves::contract_rows))]
 fn contract_move(who: u8, state: u8, kind: u8) -> Move
     ensures { result ≡ contract_move who state kind }
 {
@@ -60,6 +62,7 @@ fn contract_move(who: u8, state: u8, kind: u8) -> Move
     }
 }
 
+#[tactic(auto, unfolding(crate::specs::Moves::em_move, crate::specs::Moves::em_rows))]
 fn em_move(state: u8, kind: u8) -> Move
     ensures { result ≡ em_move state kind }
 {
@@ -88,6 +91,7 @@ fn em_move(state: u8, kind: u8) -> Move
 }
 
 // The decision over the modules' states and the event's number: 16 numbers for each module; data of no module is abort 3.
+#[tactic(auto, unfolding(sides::specs::Tables::move_of, crate::specs::Tables::air_tables, crate::specs::Moves::air_rows, crate::specs::Moves::dc_move, crate::specs::Moves::contract_move, crate::specs::Moves::em_move))]
 pub fn decide(at: [u8; 5], event: u8) -> Move
     ensures { result ≡ move_of air_tables at event }
 {

@@ -9,6 +9,7 @@ use link::watch::Watch;
 // The number of no module.
 const NO_MODULE: u8 = 5;
 
+#[tactic(auto, unfolding(crate::specs::Watch::air_watch))]
 pub fn watch() -> Watch
     ensures { result ≡ air_watch }
 {

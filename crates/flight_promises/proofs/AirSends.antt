@@ -19,7 +19,7 @@ use Rattle.link.specs.Names.{timers, EC}
 use Rattle.link.specs.Acts.{acts, pushed_all, one}
 use Rattle.link.specs.declared.acts.Acts.{Acts}
 use Rattle.link.specs.Clock.{not_due}
-use Rattle.link.specs.Moves.{to, stop}
+use Rattle.link.specs.Moves.{to, stop, does_go}
 use Rattle.link.specs.Step.{acts_of, performed, begun}
 use Rattle.link.specs.Watch.{li_is}
 use borrow.Author.Tests.{not-true}
@@ -85,7 +85,7 @@ went-acts l k e entry = refl
 asks-clean : (l : AirLink) (a : AirPdu) (entry : ℕ) → goes entry ≡ true → (air_c.chk a ≡ 0 → down_goes entry (encode air_c a) ≡ true) → CleanAnswer (asked l a entry)
 unfolding asked
 asks-clean l a entry e f =
-    pick-case CleanAnswer (eqb (move_at l 2 (request_event a.kind)).fate 0)
+    pick-case CleanAnswer (does_go (move_at l 2 (request_event a.kind)))
     (λ m. pick-case CleanAnswer (eqb (outgoing a).refusal 0)
     (λ r. let h = no-refusal a r in let s = encode air_c a in let v = move_at l 2 (request_event a.kind) in
     rw (goes-out a h)
@@ -134,7 +134,7 @@ passes-clean l k e =
     let m = move_at l k e in
     let who = eqb m.who EC in
     let g = move-goes down_goes m 2 (ack_octets m.send who) [] (ack-goes m.send who) in
-    pick-case CleanAnswer (eqb m.fate 0)
+    pick-case CleanAnswer (does_go m)
     (λ f. rw (ack-by m.send who) (stands (clean down_goes refl (ack-short m.send who) (went-acts l k e 2) g)))
     (λ f. aborts-clean l 3 refl refl)
 

@@ -13,6 +13,7 @@ use Rattle.pdu.specs.declared.uplink.Ground.TheVariants.{CancelAll, CancelContra
 use Rattle.link.specs.Tests.{either, below}
 use Rattle.link.specs.Names.{timers}
 use Rattle.link.specs.Watch.{setting_ok, timer_good, state_ok, idle, li_is}
+use Rattle.link.specs.Moves.{does_go}
 use Rattle.link.proofs.Laws.{both_left, both_right, T-eq}
 use Rattle.sides.specs.Tables.{move_of, states_ok}
 use Rattle.sides.specs.Runs.{timers_ok}
@@ -27,13 +28,13 @@ use Rattle.air_answer.specs.Events.{uplink_event, may_come}
 use Rattle.air_answer.specs.Events as air
 
 -- a request in the dialogue: what the tables let go is what may come in data
-cancel-may : (l : Link) (a b : Bool) → eqb (move_at l 2 (pick a 17 (pick b 33 64))).fate 0 ≡ true → may_come 2 (pick a 21 (pick b 37 68)) ≡ true
+cancel-may : (l : Link) (a b : Bool) → does_go (move_at l 2 (pick a 17 (pick b 33 64))) ≡ true → may_come 2 (pick a 21 (pick b 37 68)) ≡ true
 unfolding move_at move_of ground_tables ground_rows may_come
 cancel-may l true b h = refl
 cancel-may l false true h = refl
 cancel-may l false false h = h
 
-pub data-may : (l : Link) (g : Ground) → eqb (move_at l 2 (request_event g)).fate 0 ≡ true → may_come 2 (uplink_event g) ≡ true
+pub data-may : (l : Link) (g : Ground) → does_go (move_at l 2 (request_event g)) ≡ true → may_come 2 (uplink_event g) ≡ true
 unfolding request_event cancel_event uplink_event air.cancel_event may_come move_at move_of ground_tables ground_rows
 data-may l CancelAll h = h
 data-may l (CancelContract n) h = cancel-may l (eqb n 0) (eqb n 1) h
@@ -80,13 +81,13 @@ module _ (l : Link) (ok : T (good l)) (t : T (li_is l.at 0)) where
       module-idle 3 (λ e. absurd (omega (arith, e)))
       (eqb-true _ 0 (T-eq _ (both_right (eqb (get_or l.at 2 0) 0) _ (both_right (eqb (get_or l.at 1 0) 0) _ (both_right (eqb (get_or l.at 0 0) 0) _ (all-idle l ok t))))))
 
-  no-cancel : (a b : Bool) → eqb (move_at l 1 (pick a 17 (pick b 33 64))).fate 0 ≡ false
+  no-cancel : (a b : Bool) → does_go (move_at l 1 (pick a 17 (pick b 33 64))) ≡ false
   unfolding move_at move_of ground_tables ground_rows contract_rows
   no-cancel true b = rw ec-idle
   no-cancel false true = rw pc-idle
   no-cancel false false = refl
 
-  no-modify : eqb (move_at l 1 48).fate 0 ≡ false
+  no-modify : does_go (move_at l 1 48) ≡ false
   unfolding move_at move_of ground_tables ground_rows em_rows
   no-modify = rw em-idle
 
@@ -96,7 +97,7 @@ module _ (l : Link) (ok : T (good l)) (t : T (li_is l.at 0)) where
   cancel-not false true = refl
   cancel-not false false = refl
 
-  pub start-may : (g : Ground) → eqb (move_at l 1 (request_event g)).fate 0 ≡ true → may_come 1 (uplink_event g) ≡ true
+  pub start-may : (g : Ground) → does_go (move_at l 1 (request_event g)) ≡ true → may_come 1 (uplink_event g) ≡ true
   unfolding request_event cancel_event uplink_event air.cancel_event may_come move_at move_of ground_tables ground_rows
   start-may CancelAll h = h
   start-may (CancelContract n) h = cancel-not (eqb n 0) (eqb n 1) ∙ sym (no-cancel (eqb n 0) (eqb n 1)) ∙ h

@@ -20,6 +20,7 @@ use Rattle.link.specs.declared.acts.Acts.{Acts}
 use Rattle.link.specs.Clock.{not_due, stops_of}
 use Rattle.link.specs.Step.{acts_of, performed, begun, added, stopped}
 use Rattle.link.specs.Watch.{idle, li_is}
+use Rattle.link.specs.Moves.{does_go}
 use borrow.Author.Tests.{not-true}
 use Rattle.link.proofs.Laws.{no_true, eq-T, pick-case, allowed-case, pushed-append}
 use Rattle.ground_tables.specs.Moves.{li_end, li_over}
@@ -93,10 +94,10 @@ went-acts l k e n entry = refl
 
 -- a request
 asks-clean : (l : Link) (g : Ground) (li entry : ℕ) → goes entry ≡ true
-    → (ground_c.chk g ≡ 0 → eqb (move_at l li (request_event g)).fate 0 ≡ true → up_goes entry (encode ground_c g) ≡ true) → CleanAnswer (asked l g li entry)
+    → (ground_c.chk g ≡ 0 → does_go (move_at l li (request_event g)) ≡ true → up_goes entry (encode ground_c g) ≡ true) → CleanAnswer (asked l g li entry)
 unfolding asked
 asks-clean l g li entry e f =
-    pick-case CleanAnswer (eqb (move_at l li (request_event g)).fate 0)
+    pick-case CleanAnswer (does_go (move_at l li (request_event g)))
     (λ m. pick-case CleanAnswer (eqb (outgoing g).refusal 0)
     (λ r. let h = no-refusal g r in let s = encode ground_c g in let v = move_at l li (request_event g) in
     rw (goes-out g h)
@@ -144,7 +145,7 @@ unfolding passed ended ack_of performed pushed_all acts_of
 passes-clean l e =
     let m = move_at l 2 e in
     let g = move-goes up_goes m 2 (ack_octets m.send) [] (ack-goes m.send) in
-    pick-case CleanAnswer (eqb m.fate 0)
+    pick-case CleanAnswer (does_go m)
     (λ f. rw (ack-by m.send)
     (pick-case CleanAnswer (idle (went l 2 e 0 2).at)
     (λ i. stands

@@ -16,7 +16,7 @@ use Rattle.link.specs.Clock.{not_due}
 use Rattle.link.specs.Step.{acts_of, performed, begun, added, stopped, rest_at}
 use Rattle.link.specs.declared.moves.Move.{Move}
 use Rattle.link.proofs.Laws.{both_left, both_right, both-T, eq-T, T-eq}
-use Rattle.link.specs.Moves.{li_to}
+use Rattle.link.specs.Moves.{li_to, does_go}
 use Rattle.sides.specs.Tables.{balanced}
 use Rattle.sides.specs.Runs.{View, Sound, Part, stepped, steps, said_of, Loads, Fit, Fits, rested, Does, waits, plays, stops, after, total, Untouched, Watched}
 use Rattle.sides.specs.Runs as runs_of
@@ -121,7 +121,7 @@ module _ (l : Link) (f : Fine l) where
   may-move k w = busy-set l.at k f.states (way-busy k w)
 
   -- the table's move then goes, does not move LI and fits the intervals
-  move-also : (k e : ℕ) → Way l.at k → eqb (move_at l k e).fate 0 ≡ true → T (ground_also (set l.at LI k) e (move_at l k e))
+  move-also : (k e : ℕ) → Way l.at k → does_go (move_at l k e) ≡ true → T (ground_also (set l.at LI k) e (move_at l k e))
   unfolding move_at ground_tables
   move-also k e w g = (second-goes ground_tables ground-fits v sound (fine-loads l f) (li_to k) (li-balanced k w) (may-move k w) e g).1
 
@@ -132,7 +132,7 @@ module _ (l : Link) (f : Fine l) where
   kept-li : (k : ℕ) → T (intervals_ok (get_or (set l.at LI k) PC 0) l.interval)
   kept-li k = subst (λ (x : ℕ). T (intervals_ok x l.interval)) (sym (li-other l.at k)) (good-intervals l f)
 
-  kept_move : (k e n : ℕ) → Way l.at k → eqb (move_at l k e).fate 0 ≡ true → T (asks_well e n)
+  kept_move : (k e n : ℕ) → Way l.at k → does_go (move_at l k e) ≡ true → T (asks_well e n)
       → T (intervals_ok (get_or (set (set l.at LI k) (move_at l k e).who (move_at l k e).to) PC 0) (agreed_at l k e n).interval)
   unfolding ground_also stepped agreed_at
   kept_move k e n w g a =
@@ -140,11 +140,11 @@ module _ (l : Link) (f : Fine l) where
       intervals-kept l.interval (set l.at LI k) e n m (sound-li k w).states
       (both_right (not (eqb LI m.who)) (interval_row (set l.at LI k) e m) (move-also k e w g)) a (kept-li k)
 
-  agreed-loads : (k e n : ℕ) → Way l.at k → eqb (move_at l k e).fate 0 ≡ true → T (asks_well e n) → Loads (loads (agreed_at l k e n))
+  agreed-loads : (k e n : ℕ) → Way l.at k → does_go (move_at l k e) ≡ true → T (asks_well e n) → Loads (loads (agreed_at l k e n))
   unfolding agreed_at
   agreed-loads k e n w g a = loads-one (agreed_at l k e n) f.settings (good-settings l f) (force-most _ (agreed_at l k e n).interval (kept_move k e n w g a))
 
-  fit-move : (k e n entry : ℕ) → Way l.at k → eqb (move_at l k e).fate 0 ≡ true → T (asks_well e n)
+  fit-move : (k e n entry : ℕ) → Way l.at k → does_go (move_at l k e) ≡ true → T (asks_well e n)
       → Fit ground_tables (stepped v (part l (li_to k) 0)) (part (agreed_at l k e n) (move_at l k e) entry)
   unfolding move_at ground_tables agreed_at
   fit-move k e n entry w g a =
@@ -152,10 +152,10 @@ module _ (l : Link) (f : Fine l) where
       (λ t lt q. loads-steady l (agreed l.interval e n (move_at l k e)) (move_at l k e).who (agreed-other l.interval e n (move_at l k e)) t q)
 
   -- the end request, where all modules are IDLE then
-  sound-move : (k e n entry : ℕ) → Way l.at k → eqb (move_at l k e).fate 0 ≡ true → T (asks_well e n) → Sound ground_tables (steps v (went_parts l k e n entry))
+  sound-move : (k e n entry : ℕ) → Way l.at k → does_go (move_at l k e) ≡ true → T (asks_well e n) → Sound ground_tables (steps v (went_parts l k e n entry))
   sound-move k e n entry w g a = stepped-sound ground_tables ground-fits _ _ (sound-li k w) (fit-move k e n entry w g a)
 
-  end-may : (e : ℕ) → T (li_busy l.at) → eqb (move_at l LI-ACTIVE e).fate 0 ≡ true → T (idle (went l LI-ACTIVE e 0 DATA-REQUEST).at)
+  end-may : (e : ℕ) → T (li_busy l.at) → does_go (move_at l LI-ACTIVE e) ≡ true → T (idle (went l LI-ACTIVE e 0 DATA-REQUEST).at)
       → T (both (li_is (set (set l.at LI LI-ACTIVE) (move_at l LI-ACTIVE e).who (move_at l LI-ACTIVE e).to) LI-ACTIVE) (idle (set (set l.at LI LI-ACTIVE) (move_at l LI-ACTIVE e).who (move_at l LI-ACTIVE e).to)))
   unfolding went turned performed begun ground_also
   end-may e b g i =
@@ -165,7 +165,7 @@ module _ (l : Link) (f : Fine l) where
       let li = get_or-set_other at₁ m.who LI m.to 0 (eqb-false LI m.who other) ∙ li-set l.at LI-ACTIVE f.states in
       both-T (li_is (set at₁ m.who m.to) LI-ACTIVE) _ (eq-T _ (eq-eqb _ LI-ACTIVE li)) i
 
-  fit-end : (e : ℕ) → T (li_busy l.at) → eqb (move_at l LI-ACTIVE e).fate 0 ≡ true → T (asks_well e 0) → T (idle (went l LI-ACTIVE e 0 DATA-REQUEST).at)
+  fit-end : (e : ℕ) → T (li_busy l.at) → does_go (move_at l LI-ACTIVE e) ≡ true → T (asks_well e 0) → T (idle (went l LI-ACTIVE e 0 DATA-REQUEST).at)
       → Fit ground_tables (steps v (went_parts l LI-ACTIVE e 0 DATA-REQUEST)) (part (agreed_at l LI-ACTIVE e 0) li_end END-REQUEST)
   unfolding stepped ground_tables
   fit-end e b g a i =

@@ -15,6 +15,7 @@ use Rattle.link.specs.Clock.{not_due}
 use Rattle.link.specs.Step.{performed}
 use Rattle.link.proofs.Laws.{eq-T, pick-case, pick_same, allowed-case}
 use Rattle.link.specs.Watch.{idle, li_is}
+use Rattle.link.specs.Moves.{does_go}
 use Rattle.sides.specs.Runs.{seconds}
 use Rattle.ground_tables.specs.Names.{LI-IDLE, LI-START, LI-ACTIVE, LI-END}
 use Rattle.ground_tables.specs.Moves.{li_end}
@@ -48,9 +49,9 @@ pub record Kinds (l : Link) (P : ℕ → Answer → Type 0) : Type 0 where
   pub aborts : (n s : ℕ) → T (good l) → P s (aborted l n)
   pub closes : (entry reason : ℕ) → T (good l) → P 0 (closed l entry reason)
   pub cancels : T (good l) → P 0 (cancelled l)
-  pub goes : (k e n entry : ℕ) (s : Sent) → T (good l) → Way l.at k → eqb (move_at l k e).fate 0 ≡ true → T (asks_well e n)
+  pub goes : (k e n entry : ℕ) (s : Sent) → T (good l) → Way l.at k → does_go (move_at l k e) ≡ true → T (asks_well e n)
       → P 0 (tells (agreed_at l k e n) (went l k e n entry) 0 s)
-  pub ends : (e : ℕ) (s : Sent) → T (good l) → T (li_busy l.at) → eqb (move_at l LI-ACTIVE e).fate 0 ≡ true → T (asks_well e 0)
+  pub ends : (e : ℕ) (s : Sent) → T (good l) → T (li_busy l.at) → does_go (move_at l LI-ACTIVE e) ≡ true → T (asks_well e 0)
       → T (idle (went l LI-ACTIVE e 0 DATA-REQUEST).at)
       → P 0 (tells (agreed_at l LI-ACTIVE e 0) (performed (went l LI-ACTIVE e 0 DATA-REQUEST) li_end (loads (agreed_at l LI-ACTIVE e 0)) END-REQUEST) 0 s)
   pub waits : (n : ℕ) → T (good l) → T (below timers (not_due n l.left)) → P n (waited l n)
@@ -81,7 +82,7 @@ module _ (l : Link) (P : ℕ → Answer → Type 0) (k : Kinds l P) where
   asking : (g : Ground) (li entry : ℕ) → Way l.at li → T (good l) → P 0 (asked l g li entry)
   unfolding asked
   asking g li entry w ok =
-      pick-case (P 0) (eqb (move_at l li (request_event g)).fate 0)
+      pick-case (P 0) (does_go (move_at l li (request_event g)))
       (λ f. pick-case (P 0) (eqb (outgoing g).refusal 0) (λ r. k.goes li (request_event g) (asks_for g) entry (outgoing g).sent ok w f (asked-well g r)) (λ r. k.stays (outgoing g).refusal r))
       (λ f. k.stays 1 refl)
 
@@ -98,7 +99,7 @@ module _ (l : Link) (P : ℕ → Answer → Type 0) (k : Kinds l P) where
   passing : (e : ℕ) → T (asks_well e 0) → T (good l) → T (li_busy l.at) → P 0 (passed l e)
   unfolding passed ended
   passing e w ok b =
-      pick-case (P 0) (eqb (move_at l LI-ACTIVE e).fate 0)
+      pick-case (P 0) (does_go (move_at l LI-ACTIVE e))
       (λ f. pick-case (P 0) (idle (went l LI-ACTIVE e 0 DATA-REQUEST).at)
       (λ i. k.ends e (ack_of (move_at l LI-ACTIVE e)) ok b f w (eq-T _ i))
       (λ i. k.goes LI-ACTIVE e 0 DATA-REQUEST (ack_of (move_at l LI-ACTIVE e)) ok (stays_open b) f w))

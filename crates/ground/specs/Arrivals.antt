@@ -22,7 +22,8 @@ use Rattle.ground_answer.specs.Aborts.{aborted}
 use Rattle.ground_answer.specs.declared.answer.Answer.{Answer}
 use Rattle.refusals.specs.Refusals.{CANNOT-OCCUR}
 use Rattle.pdu.specs.Reasons.{INVALID-PDU, SEQUENCE-ERROR}
-use Rattle.link.specs.Names.{GOES, DATA-REQUEST}
+use Rattle.link.specs.Names.{DATA-REQUEST}
+use Rattle.link.specs.Moves.{does_go}
 
 -- "cancel-emergency, stop the timer, ind, send ack": the one send that data makes. It goes before an end request
 unfoldable pub ack_of : Move → Sent
@@ -35,7 +36,7 @@ ended l s octets = pick (idle s.at) (tells l (performed s li_end (loads l) END-R
 -- "Downlink data not listed for a state: abort 3." Data asks for no interval
 unfoldable pub passed : Link → ℕ → Answer
 passed l e =
-    pick (eqb (move_at l LI-ACTIVE e).fate GOES)
+    pick (does_go (move_at l LI-ACTIVE e))
     (ended (agreed_at l LI-ACTIVE e 0) (went l LI-ACTIVE e 0 DATA-REQUEST) (ack_of (move_at l LI-ACTIVE e)))
     (aborted l SEQUENCE-ERROR)
 

@@ -15,12 +15,13 @@ use Rattle.ground_answer.specs.Answers.{START-REQUEST, END-REQUEST, refusal, tel
 use Rattle.ground_answer.specs.Aborts.{closed_when}
 use Rattle.ground_answer.specs.declared.answer.Answer.{Answer}
 use Rattle.refusals.specs.Refusals.{NOT-PERMITTED}
-use Rattle.link.specs.Names.{GOES, DATA-REQUEST, ABORT-REQUEST}
+use Rattle.link.specs.Names.{DATA-REQUEST, ABORT-REQUEST}
+use Rattle.link.specs.Moves.{does_go}
 
 -- a module's request, with LI at li from then on: 1 where no row has it, then what its fields are refused with, else the move
 unfoldable pub asked : Link → Ground → ℕ → ℕ → Answer
 asked l g li entry =
-    pick (eqb (move_at l li (request_event g)).fate GOES)
+    pick (does_go (move_at l li (request_event g)))
     (pick (eqb (outgoing g).refusal 0)
     (tells (agreed_at l li (request_event g) (asks_for g)) (went l li (request_event g) (asks_for g) entry) 0 (outgoing g).sent)
     (refusal l (outgoing g).refusal))

@@ -12,8 +12,8 @@ use ground_answer::sent::{Sent, nothing, write};
 use ground_tables::decide::{decide, li_end};
 use ground_tables::names::*;
 use link::actions::DATA_REQUEST;
-use link::executor::{Step, add, begin, perform};
-use link::moves::{GOES, Move};
+use link::executor::Step;
+use link::moves::{Fate, Move};
 use link::watch::all_idle;
 use pdu::decode_air;
 use pdu::reasons::{INVALID_PDU, SEQUENCE_ERROR};
@@ -21,48 +21,48 @@ use pdu::uplink::Ground;
 use refusals::{BAD_RECORD, CANNOT_OCCUR};
 
 // The emergency ack, where the move sends.
+#[tactic(auto, unfolding(crate::specs::Arrivals::ack_of))]
 fn ack_of(m: Move) -> Sent
     ensures { result ≡ ack_of m }
 {
     if m.send {
-        let w = write(Ground::CancelEmergencyAck);
-        w.sent
+        write(Ground::CancelEmergencyAck).sent
     } else {
         nothing()
     }
 }
 
 // After a move that data made: one end request at the end where all four modules are IDLE.
+#[tactic(auto, unfolding(crate::specs::Arrivals::ended))]
 fn end(l: Link, s: Step, sent: Sent) -> Answer
     ensures { result ≡ ended l s sent }
 {
-    let at = s.at;
-    if all_idle(at) {
-        return tell(l, perform(s, li_end(), most_of(l), END_REQUEST), 0, sent);
+    if all_idle(s.at) {
+        return tell(l, s.perform(li_end(), most_of(l), END_REQUEST), 0, sent);
     }
     tell(l, s, 0, sent)
 }
 
 // Data for the modules: what is not listed is abort 3.
+#[tactic(auto, unfolding(crate::specs::Arrivals::passed, ground_answer::specs::Record::went, ground_answer::specs::Record::agreed_at, ground_answer::specs::Record::move_at, ground_answer::specs::Record::turned, link::specs::Step::performed, link::specs::Step::begun))]
 fn pass(l: Link, event: u8) -> Answer
     ensures { result ≡ passed l event }
 {
     let first = turn(l, LI_ACTIVE);
-    let at = first.at;
-    let m = decide(at, event);
-    let fate = m.fate;
-    if fate != GOES {
+    let m = decide(first.at, event);
+    if m.fate != Fate::Goes {
         return abort(l, SEQUENCE_ERROR);
     }
     let next = agree_on(l, event, 0, m);
     end(
         next,
-        perform(first, m, most_of(next), DATA_REQUEST),
+        first.perform(m, most_of(next), DATA_REQUEST),
         ack_of(m),
     )
 }
 
 // A value is taken only when the reading is good; otherwise abort 2.
+#[tactic(auto, unfolding(crate::specs::Arrivals::taken))]
 fn take(l: Link, octets: &[u8]) -> Answer
     ensures { result ≡ taken l (read_pdu air_c octets.now) }
 {
@@ -73,36 +73,35 @@ fn take(l: Link, octets: &[u8]) -> Answer
 }
 
 // The accepted answer to our start, with its data.
+#[tactic(auto, unfolding(crate::specs::Arrivals::confirmed))]
 pub fn start_confirm(l: Link, octets: &[u8]) -> Answer
     ensures { result ≡ confirmed l octets.now }
 {
     if !is_good(l) {
         return refuse(l, BAD_RECORD);
     }
-    let at = l.at;
-    if at[4] != LI_START {
+    if l.at[4] != LI_START {
         return refuse(l, CANNOT_OCCUR);
     }
     take(l, octets)
 }
 
+#[tactic(auto, unfolding(crate::specs::Arrivals::late_data))]
 fn late(l: Link) -> Answer
     ensures { result ≡ late_data l }
 {
-    let at = l.at;
-    let left = l.left;
-    change(l, add(begin(at, left), LATE))
+    change(l, Step::begin(l.at, l.left).add(LATE))
 }
 
 // Data: in END it is set aside unread.
+#[tactic(auto, unfolding(crate::specs::Arrivals::arrived))]
 pub fn data(l: Link, octets: &[u8]) -> Answer
     ensures { result ≡ arrived l octets.now }
 {
     if !is_good(l) {
         return refuse(l, BAD_RECORD);
     }
-    let at = l.at;
-    match at[4] {
+    match l.at[4] {
         LI_ACTIVE => take(l, octets),
         LI_END => late(l),
         _ => refuse(l, CANNOT_OCCUR),

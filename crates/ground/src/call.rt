@@ -26,6 +26,7 @@ pub enum Call {
     Down,
 }
 
+#[tactic(auto, unfolding(crate::specs::Runs::answered))]
 pub fn answer(l: Link, call: Call, octets: &[u8]) -> Answer
     ensures { result ≡ answered l call octets.now }
 {

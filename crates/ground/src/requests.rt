@@ -12,13 +12,14 @@ use ground_answer::sent::write;
 use ground_tables::decide::{decide, li_end};
 use ground_tables::names::*;
 use link::actions::{ABORT_REQUEST, DATA_REQUEST};
-use link::executor::{perform, stop_all};
-use link::moves::GOES;
+use link::executor::Step;
+use link::moves::Fate;
 use pdu::uplink::Ground;
 use pdu_parts::interval::Interval;
 use refusals::{BAD_RECORD, NOT_PERMITTED};
 
 // The seconds that a periodic request asks for; they are few where its fields are in range.
+#[tactic(auto, unfolding(ground_answer::specs::Events::asks_for))]
 fn asks_for(g: Ground) -> u32
     requires { (outgoing g).refusal ≡ 0 }
     ensures { result ≡ asks_for g }
@@ -26,59 +27,50 @@ fn asks_for(g: Ground) -> u32
     let Ground::PeriodicContract(a) = g else {
         return 0;
     };
-    let interval = a.interval;
-    match interval {
+    match a.interval {
         Interval::Seconds(n) => n,
         Interval::Minutes(n) => n * 60,
     }
 }
 
 // A module's request, with LI then at `li` and `entry` for the PDU: 1 before the refusals of its fields.
+#[tactic(auto, unfolding(crate::specs::Requests::asked, ground_answer::specs::Record::went, ground_answer::specs::Record::agreed_at, ground_answer::specs::Record::move_at, ground_answer::specs::Record::turned, link::specs::Step::performed, link::specs::Step::begun))]
 fn ask(l: Link, g: Ground, li: u8, entry: u8) -> Answer
     ensures { result ≡ asked l g li entry }
 {
     let first = turn(l, li);
-    let at = first.at;
     let event = request_event(g);
-    let m = decide(at, event);
-    let fate = m.fate;
-    if fate != GOES {
+    let m = decide(first.at, event);
+    if m.fate != Fate::Goes {
         return refuse(l, NOT_PERMITTED);
     }
     let w = write(g);
-    let refusal = w.refusal;
-    if refusal != 0 {
-        return refuse(l, refusal);
+    if w.refusal != 0 {
+        return refuse(l, w.refusal);
     }
-    let sent = w.sent;
     let next = agree_on(l, event, asks_for(g), m);
-    tell(next, perform(first, m, most_of(next), entry), 0, sent)
+    tell(next, first.perform(m, most_of(next), entry), 0, w.sent)
 }
 
+#[tactic(auto, unfolding(crate::specs::Requests::all_cancelled, crate::specs::Requests::cancelled))]
 fn cancel_all(l: Link) -> Answer
     ensures { result ≡ all_cancelled l }
 {
     if !is_good(l) {
         return refuse(l, BAD_RECORD);
     }
-    let at = l.at;
-    if at[4] != LI_ACTIVE {
+    if l.at[4] != LI_ACTIVE {
         return refuse(l, NOT_PERMITTED);
     }
-    let left = l.left;
     let w = write(Ground::CancelAll);
-    let sent = w.sent;
     let next = clear(l);
-    let step = perform(
-        stop_all(left, LI_ACTIVE),
-        li_end(),
-        most_of(next),
-        END_REQUEST,
-    );
-    tell(next, step, 0, sent)
+    let stopped = Step::stop_all(l.left, LI_ACTIVE);
+    let step = stopped.perform(li_end(), most_of(next), END_REQUEST);
+    tell(next, step, 0, w.sent)
 }
 
 // A request: in LI-IDLE a start request, in ACTIVE a data request or, for cancel-all, the end request.
+#[tactic(auto, unfolding(crate::specs::Requests::requested))]
 pub fn request(l: Link, g: Ground) -> Answer
     ensures { result ≡ requested l g }
 {
@@ -88,8 +80,7 @@ pub fn request(l: Link, g: Ground) -> Answer
     if !is_good(l) {
         return refuse(l, BAD_RECORD);
     }
-    let at = l.at;
-    match at[4] {
+    match l.at[4] {
         LI_IDLE => ask(l, g, LI_START, START_REQUEST),
         LI_ACTIVE => ask(l, g, LI_ACTIVE, DATA_REQUEST),
         _ => refuse(l, NOT_PERMITTED),
@@ -97,9 +88,9 @@ pub fn request(l: Link, g: Ground) -> Answer
 }
 
 // No PDU goes, and the user is told nothing.
+#[tactic(auto, unfolding(crate::specs::Requests::user_aborted))]
 pub fn user_abort(l: Link) -> Answer
     ensures { result ≡ user_aborted l }
 {
-    let at = l.at;
-    close_when(l, at[4] != LI_IDLE, NOT_PERMITTED, ABORT_REQUEST, 0)
+    close_when(l, l.at[4] != LI_IDLE, NOT_PERMITTED, ABORT_REQUEST, 0)
 }

@@ -5,30 +5,29 @@ ghost use Rattle.ground_answer.specs.Aborts.{closed, aborted, closed_when};
 use crate::answer::*;
 use crate::record::{Link, clear, is_good};
 use crate::sent::{nothing, write};
-use link::executor::{abort_all, stop_then};
+use link::executor::Step;
 use pdu::uplink::Ground;
 use refusals::BAD_RECORD;
 
 // One entry after the stops, and the reason that it shows.
+#[tactic(auto, unfolding(crate::specs::Aborts::closed))]
 fn close(l: Link, entry: u8, reason: u32) -> Answer
     ensures { result ≡ closed l entry reason }
 {
-    let left = l.left;
-    tell(clear(l), stop_then(left, entry), reason, nothing())
+    tell(clear(l), Step::stop_then(l.left, entry), reason, nothing())
 }
 
 // Stops, abort request with the ground provider abort, abort indication, all IDLE.
+#[tactic(auto, unfolding(crate::specs::Aborts::aborted))]
 pub fn abort(l: Link, reason: u32) -> Answer
     ensures { result ≡ aborted l reason }
 {
-    let left = l.left;
-    let step = abort_all(left);
     let w = write(Ground::Abort(reason));
-    let sent = w.sent;
-    tell(clear(l), step, reason, sent)
+    tell(clear(l), Step::abort_all(l.left), reason, w.sent)
 }
 
 // Everything stops where it may; where not, the call is refused.
+#[tactic(auto, unfolding(crate::specs::Aborts::closed_when))]
 pub fn close_when(l: Link, may: bool, number: u8, entry: u8, reason: u32) -> Answer
     ensures { result ≡ closed_when l may number entry reason }
 {

@@ -6,11 +6,12 @@ use crate::abort::abort;
 use crate::answer::*;
 use crate::record::{Link, is_good};
 use link::clock::{ELAPSE_MOST, after, none_due};
-use link::executor::begin;
+use link::executor::Step;
 use pdu::reasons::TIMER_EXPIRY;
 use refusals::{BAD_RECORD, ELAPSE_OVER};
 
 // An elapse of n seconds.
+#[tactic(auto, unfolding(crate::specs::Clock::elapsed, crate::specs::Clock::waited))]
 pub fn elapse(l: Link, n: u32) -> Answer
     ensures { result ≡ elapsed l n }
 {
@@ -20,10 +21,8 @@ pub fn elapse(l: Link, n: u32) -> Answer
     if ELAPSE_MOST < n {
         return refuse(l, ELAPSE_OVER);
     }
-    let at = l.at;
-    let left = l.left;
-    if none_due(n, left) {
-        change(l, begin(at, after(n, left)))
+    if none_due(n, l.left) {
+        change(l, Step::begin(l.at, after(n, l.left)))
     } else {
         abort(l, TIMER_EXPIRY)
     }

@@ -11,6 +11,7 @@ use pdu::uplink::Ground;
 // LI's own request, of no module.
 pub const CANCEL_ALL: u8 = 65;
 
+#[tactic(auto, unfolding(crate::specs::Events::negative_event))]
 fn negative_event(request: u32) -> u8
     ensures { result ≡ negative_event request }
 {
@@ -22,6 +23,7 @@ fn negative_event(request: u32) -> u8
     }
 }
 
+#[tactic(auto, unfolding(crate::specs::Events::positive_event))]
 fn positive_event(request: u32) -> u8
     ensures { result ≡ positive_event request }
 {
@@ -35,6 +37,7 @@ fn positive_event(request: u32) -> u8
     }
 }
 
+#[tactic(auto, unfolding(crate::specs::Events::unmet_event))]
 fn unmet_event(kind: u32) -> u8
     ensures { result ≡ unmet_event kind }
 {
@@ -47,6 +50,7 @@ fn unmet_event(kind: u32) -> u8
 }
 
 // Downlink data.
+#[tactic(auto, unfolding(crate::specs::Events::air_event))]
 pub fn air_event(a: Air) -> u8
     ensures { result ≡ air_event a }
 {
@@ -63,6 +67,7 @@ pub fn air_event(a: Air) -> u8
     }
 }
 
+#[tactic(auto, unfolding(crate::specs::Events::cancel_event))]
 fn cancel_event(contract: u32) -> u8
     ensures { result ≡ cancel_event contract }
 {
@@ -74,6 +79,7 @@ fn cancel_event(contract: u32) -> u8
 }
 
 // A user's request.
+#[tactic(auto, unfolding(crate::specs::Events::request_event))]
 pub fn request_event(g: Ground) -> u8
     ensures { result ≡ request_event g }
 {
@@ -90,6 +96,7 @@ pub fn request_event(g: Ground) -> u8
 }
 
 // The reason that a provider abort gives; any other PDU gives none that is known.
+#[tactic(auto, unfolding(crate::specs::Events::reason_in))]
 pub fn reason_in(a: Air) -> u32
     ensures { result ≡ reason_in a }
 {

@@ -17,6 +17,7 @@ pub struct Opened {
 }
 
 // Everything IDLE, no timer running.
+#[tactic(auto, unfolding(crate::specs::Record::fresh, link::specs::Step::rest_at))]
 pub fn idle_link(setting: [u32; TIMERS]) -> Link
     ensures { result ≡ fresh setting }
 {
@@ -24,6 +25,7 @@ pub fn idle_link(setting: [u32; TIMERS]) -> Link
 }
 
 // A link from the ten settings in watch order, each 1..86,400 seconds.
+#[tactic(auto, unfolding(crate::specs::Fresh::opened))]
 pub fn open(setting: [u32; TIMERS]) -> Opened
     ensures { result ≡ opened setting }
 {

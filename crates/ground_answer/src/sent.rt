@@ -38,10 +38,10 @@ pub fn write(g: Ground) -> Outgoing
     let mut octets = [0u8; SENT_MOST];
     let w = encode_ground(g, &mut octets);
     match w {
-        Ok(n) => {
-            let sent = Sent { n, octets };
-            Outgoing { refusal: 0, sent }
-        }
+        Ok(n) => Outgoing {
+            refusal: 0,
+            sent: Sent { n, octets },
+        },
         Err(refusal) => {
             let sent = nothing();
             Outgoing {

@@ -10,6 +10,7 @@ ghost use Rattle.ground_tables.specs.Tables.{ground_tables};
 use crate::names::*;
 use link::moves::*;
 
+#[tactic(auto, unfolding(crate::specs::Moves::dc_move, crate::specs::Moves::dc_rows))]
 fn dc_move(state: u8, kind: u8) -> Move
     ensures { result ≡ dc_move state kind }
 {
@@ -32,6 +33,7 @@ fn dc_move(state: u8, kind: u8) -> Move
 }
 
 // EC and PC: t1 is the timer of a request, tc that of a cancel, w the one that runs in ACTIVE.
+#[tactic(auto, unfolding(crate::specs::Moves::contract_move, crate::specs::Moves::contract_rows))]
 fn contract_move(who: u8, t1: u8, tc: u8, w: u8, state: u8, kind: u8) -> Move
     ensures { result ≡ contract_move who t1 tc w state kind }
 {
@@ -66,6 +68,7 @@ fn contract_move(who: u8, t1: u8, tc: u8, w: u8, state: u8, kind: u8) -> Move
 }
 
 // EM: p is PC2 where PC is ACTIVE, else none.
+#[tactic(auto, unfolding(crate::specs::Moves::em_move, crate::specs::Moves::em_rows))]
 fn em_move(p: u8, state: u8, kind: u8) -> Move
     ensures { result ≡ em_move p state kind }
 {
@@ -98,6 +101,7 @@ fn pc2_if(state: u8, wanted: u8) -> u8
 }
 
 // The decision over the modules' states and the event's number: 16 numbers for each module; data of no module is abort 3.
+#[tactic(auto, unfolding(sides::specs::Tables::move_of, crate::specs::Tables::ground_tables, crate::specs::Moves::ground_rows, crate::specs::Moves::dc_move, crate::specs::Moves::contract_move, crate::specs::Moves::em_move))]
 pub fn decide(at: [u8; 5], event: u8) -> Move
     ensures { result ≡ move_of ground_tables at event }
 {

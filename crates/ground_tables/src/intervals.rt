@@ -26,55 +26,42 @@ pub fn no_intervals() -> Intervals
 fn between(first: u8, pc: u8, last: u8) -> bool
     ensures { result ≡ both (leb first pc) (leb pc last) }
 {
-    if pc < first {
-        return false;
-    }
-    pc <= last
+    first <= pc && pc <= last
 }
 
+#[tactic(auto, unfolding(crate::specs::Intervals::interval_ok))]
 fn interval_ok(held: bool, x: u32) -> bool
     ensures { result ≡ interval_ok held x }
 {
     if held {
-        if x < 1 {
-            return false;
-        }
-        x <= INTERVAL_MOST
+        1 <= x && x <= INTERVAL_MOST
     } else {
         x == 0
     }
 }
 
 // Whether each interval is there, 1 to 7,200 seconds, exactly at the states of PC that have it.
+#[tactic(auto, unfolding(crate::specs::Intervals::intervals_ok))]
 pub fn intervals_ok(pc: u8, i: Intervals) -> bool
     ensures { result ≡ intervals_ok pc i }
 {
-    if !interval_ok(between(START_PENDING, pc, PENDING), i.asked) {
-        return false;
-    }
-    interval_ok(between(PENDING, pc, CANCEL), i.force)
+    interval_ok(between(START_PENDING, pc, PENDING), i.asked)
+        && interval_ok(between(PENDING, pc, CANCEL), i.force)
 }
 
 // The answers by which the interval asked for comes into force.
+#[tactic(auto, unfolding(crate::specs::Intervals::agrees))]
 fn is_agreed(event: u8) -> bool
     ensures { result ≡ agrees event }
 {
-    if event == OF_PC + REPORT_ACK {
-        return true;
-    }
-    if event == OF_PC + POSITIVE {
-        return true;
-    }
-    event == OF_PC + NONCOMPLIANCE
+    event == OF_PC + REPORT_ACK || event == OF_PC + POSITIVE || event == OF_PC + NONCOMPLIANCE
 }
 
+#[tactic(auto, unfolding(crate::specs::Intervals::answers))]
 fn is_answer(event: u8) -> bool
     ensures { result ≡ answers event }
 {
-    if is_agreed(event) {
-        return true;
-    }
-    event == OF_PC + NEGATIVE
+    is_agreed(event) || event == OF_PC + NEGATIVE
 }
 
 fn asked_after(event: u8, state: u8, new: u32, old: u32) -> u32
@@ -99,6 +86,7 @@ fn force_after(event: u8, state: u8, asked: u32, old: u32) -> u32
 }
 
 // The intervals after an event and its move; `seconds` is what a periodic request asks for.
+#[tactic(auto, unfolding(crate::specs::Intervals::agreed))]
 pub fn agree(i: Intervals, event: u8, seconds: u32, m: Move) -> Intervals
     ensures { result ≡ agreed i event seconds m }
 {

@@ -30,6 +30,7 @@ const EM_LAST: [u8; TIMERS] = [
     MODIFY, MODIFY, MODIFY, MODIFY, MODIFY, IDLE, MODIFY, MODIFY, MODIFY, MODIFY,
 ];
 
+#[tactic(auto, unfolding(crate::specs::Watch::ground_watch))]
 pub fn watch() -> Watch
     ensures { result ≡ ground_watch }
 {

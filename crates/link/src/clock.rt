@@ -6,7 +6,7 @@ ghost use Rattle.link.specs.Acts.{acts, pushed_all};
 ghost use Rattle.link.specs.Clock.{due, not_due, later, stops_of};
 
 use crate::actions::*;
-use crate::acts::{Acts, none, push_when};
+use crate::acts::Acts;
 use crate::moves::TIMERS;
 
 // The most seconds of one elapse.
@@ -37,9 +37,9 @@ pub fn after(n: u32, left: [u32; TIMERS]) -> [u32; TIMERS]
 pub fn stops(left: [u32; TIMERS]) -> Acts
     ensures { result ≡ pushed_all (acts []) (stops_of timers left) }
 {
-    let mut a = none();
+    let mut a = Acts::none();
     for t in 0..TIMERS {
-        a = push_when(a, 1 <= left[t], STOP + (t as u8));
+        a = a.push_when(1 <= left[t], STOP + (t as u8));
     }
     a
 }

@@ -36,16 +36,18 @@ pub const NO_REQUEST: u8 = 64;
 pub const NO_DATA: u8 = 68;
 
 // What comes of an event: a move that goes, a request that is refused, data that aborts.
-pub const GOES: u8 = 0;
-
-pub const REFUSES: u8 = 1;
-
-pub const ABORTS: u8 = 3;
+#[derive(Drop)]
+#[derive(Clone, Copy, PartialEq, Eq, Debug)]
+pub enum Fate {
+    Goes,
+    Refuses,
+    Aborts,
+}
 
 #[derive(Drop)]
 #[derive(Clone, Copy)]
 pub struct Move {
-    pub fate: u8,
+    pub fate: Fate,
     pub stop: u8,
     pub ind: bool,
     pub send: bool,
@@ -58,7 +60,7 @@ pub fn go(who: u8, to: u8, stop: u8, ind: bool, send: bool, start: u8) -> Move
     ensures { result ≡ go who to stop ind send start }
 {
     Move {
-        fate: GOES,
+        fate: Fate::Goes,
         stop,
         ind,
         send,
@@ -78,7 +80,11 @@ pub fn li_to(k: u8) -> Move
 pub fn unlisted(kind: u8) -> Move
     ensures { result ≡ unlisted kind }
 {
-    let fate: u8 = if kind <= 3 { REFUSES } else { ABORTS };
+    let fate = if kind <= 3 {
+        Fate::Refuses
+    } else {
+        Fate::Aborts
+    };
     Move {
         fate,
         stop: NO_TIMER,

@@ -19,8 +19,7 @@ pub struct Watch {
 fn state(at: [u8; 5], m: u8) -> u8
     ensures { result ≡ get_or at m 0 }
 {
-    let i = m as usize;
-    if i < 5 { at[i] } else { 0 }
+    at.get(m as usize).copied().unwrap_or(0)
 }
 
 // Whether timer t runs at the modules' states; a number past the last never does.

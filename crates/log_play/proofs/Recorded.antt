@@ -18,6 +18,7 @@ use Rattle.pdu.proofs.Promises.{ground-written}
 use Rattle.link.specs.Tests.{pick, below}
 use Rattle.link.specs.Names.{timers, EC, PC, of, no_request, DATA-REQUEST}
 use Rattle.link.specs.Watch.{setting_ok, li_is}
+use Rattle.link.specs.Moves.{does_go}
 use Rattle.link.proofs.Laws.{T-eq, below_at, seconds-range, pick-case}
 use Rattle.ground_tables.specs.Names.{cancel, LI1, LI-IDLE, LI-START, LI-ACTIVE}
 use Rattle.octets.specs.Octets.{quads, words, Octets}
@@ -90,7 +91,7 @@ module _ (l : Link) (g : Ground) where
   asked-writes : (li entry : ℕ) → Writes (asked l g li entry)
   unfolding asked outgoing
   asked-writes li entry =
-      pick-case Writes (eqb (move_at l li (request_event g)).fate 0)
+      pick-case Writes (does_go (move_at l li (request_event g)))
       (λ f. pick-case Writes (eqb (letter_of (ground_c.chk g) (encode ground_c g)).refusal 0)
       (λ r e. sym (letter-number (ground_c.chk g) (encode ground_c g)) ∙ eqb-true _ 0 r)
       (λ r e. absurd (eqb-false _ 0 r e)))

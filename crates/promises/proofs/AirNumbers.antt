@@ -20,9 +20,10 @@ use Rattle.pdu.specs.declared.uplink.Ground.{Ground}
 use Rattle.pdu.specs.UplinkTable.{ground_tag, ground_c}
 use Rattle.pdu.specs.DownlinkTable.{air_alt, air_c}
 use Rattle.link.specs.Tests.{both, below}
-use Rattle.link.specs.Names.{timers, GOES, DATA-REQUEST, ABORT-REQUEST, ABORT-IND, PEER-ABORT-IND}
+use Rattle.link.specs.Names.{timers, DATA-REQUEST, ABORT-REQUEST, ABORT-IND, PEER-ABORT-IND}
 use Rattle.link.specs.Clock.{not_due}
 use Rattle.link.specs.Watch.{li_is}
+use Rattle.link.specs.Moves.{does_go}
 use Rattle.sides.specs.Tables.{member}
 use Rattle.air_tables.specs.Names.{LI-IDLE, LI-START, LI-ACTIVE}
 use Rattle.air_answer.specs.Answers.{START-RESPONSE, refusal, allowed}
@@ -160,7 +161,7 @@ on-closed l may number entry reason r = on-allowed l may number r (ok tt)
 
 on-taken : (l : AirLink) (k : ℕ) (r : per.Answer Ground) → OnA (taken l k r)
 unfolding taken passed aborted
-on-taken l k (got g) = on-pick (may_come k (uplink_event g)) (on-pick (eqb (move_at l k (uplink_event g)).fate GOES) (ok tt) (ok tt)) (ok tt)
+on-taken l k (got g) = on-pick (may_come k (uplink_event g)) (on-pick (does_go (move_at l k (uplink_event g))) (ok tt) (ok tt)) (ok tt)
 on-taken l k (refused n) = ok tt
 
 on-all-cancelled : (l : AirLink) (r : per.Answer Ground) → OnA (all_cancelled l r)
@@ -171,7 +172,7 @@ on-all-cancelled l (refused n) = ok tt
 on-asked : (l : AirLink) (a : AirPdu) (entry : ℕ) → OnA (asked l a entry)
 unfolding asked
 on-asked l a entry =
-    on-pick (eqb (move_at l LI-ACTIVE (request_event a.kind)).fate GOES) (on-pick (eqb (outgoing a).refusal 0) (ok tt) (record { is = on-outgoing a })) (ok tt)
+    on-pick (does_go (move_at l LI-ACTIVE (request_event a.kind))) (on-pick (eqb (outgoing a).refusal 0) (ok tt) (record { is = on-outgoing a })) (ok tt)
 
 on_call : (l : AirLink) (c : Call) (list : Listed) (s : List ℕ) → OnA (answered l c list s)
 unfolding answered requested user_aborted elapsed waited indicated arrived end_indicated ended peer_aborted ground_aborted failed aborted

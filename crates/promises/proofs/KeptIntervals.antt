@@ -17,7 +17,7 @@ use Rattle.link.specs.Watch.{setting_ok, idle, li_is}
 use Rattle.link.specs.declared.moves.Move.{Move}
 use Rattle.link.proofs.Laws.{both_left, both_right, no_true, T-eq}
 use Rattle.sides.specs.Tables.{move_of}
-use Rattle.link.specs.Moves.{to, stop, send, start, unlisted}
+use Rattle.link.specs.Moves.{to, stop, send, start, unlisted, does_go}
 use Rattle.ground_tables.specs.Names.{START-PENDING, PENDING, PC1, LI-IDLE, LI-START, LI-ACTIVE}
 use Rattle.ground_tables.specs.Moves.{contract_rows, ground_rows, pc2_quiet}
 use Rattle.ground_tables.specs.Intervals.{no_intervals, asked_at, holds, interval_ok, intervals_ok, agrees, answers, agreed}
@@ -44,7 +44,7 @@ interval-either false x y i p q = q
 -- ---- data
 
 -- what data makes of the intervals where its move goes
-passed_on : (l : Link) (e : ℕ) → eqb (move_at l LI-ACTIVE e).fate 0 ≡ true → (passed l e).link.interval ≡ agreed l.interval e 0 (move_at l LI-ACTIVE e)
+passed_on : (l : Link) (e : ℕ) → does_go (move_at l LI-ACTIVE e) ≡ true → (passed l e).link.interval ≡ agreed l.interval e 0 (move_at l LI-ACTIVE e)
 unfolding passed ended agreed_at followed
 passed_on l e g = rw g (interval-either (idle (went l LI-ACTIVE e 0 2).at) _ _ _ refl refl)
 
@@ -135,7 +135,7 @@ unfolding move_of ground_tables ground_rows contract_rows
 request-at at = simp (both_true, both_false)
 
 -- what an accepted one makes of the intervals
-asking : (i : Intervals) (n : ℕ) (at : List ℕ) → eqb (move_of ground_tables at 32).fate 0 ≡ true
+asking : (i : Intervals) (n : ℕ) (at : List ℕ) → does_go (move_of ground_tables at 32) ≡ true
     → agreed i 32 n (move_of ground_tables at 32) ≡ record { asked = n; force = i.force }
 unfolding agreed agrees answers
 asking i n at = rw (request-at at) (go (eqb (get_or at PC 0) 0) (eqb (get_or at PC 0) 3))
@@ -143,7 +143,7 @@ asking i n at = rw (request-at at) (go (eqb (get_or at PC 0) 0) (eqb (get_or at 
     m : Bool → Bool → Move
     m x y = pick x (send (start PC1 (to PC START-PENDING))) (pick y (stop (pc2_quiet at) (send (start PC1 (to PC PENDING)))) (unlisted 0))
 
-    go : (x y : Bool) → eqb (m x y).fate 0 ≡ true → agreed i 32 n (m x y) ≡ record { asked = n; force = i.force }
+    go : (x y : Bool) → does_go (m x y) ≡ true → agreed i 32 n (m x y) ≡ record { asked = n; force = i.force }
     go true y h = refl
     go false true h = refl
     go false false h = absurd (no_true (sym h))
@@ -160,7 +160,7 @@ asked-so : (l : Link) (a : Periodic) (li entry : ℕ) → Leaves (record { asked
 unfolding asked request_event asks_for agreed_at followed move_at
 asked-so l a li entry =
     let i : Intervals = record { asked = seconds_of a.interval; force = l.interval.force } in
-    leaves_either i (eqb (move_at l li 32).fate 0) _ _
+    leaves_either i (does_go (move_at l li 32)) _ _
     (λ g. leaves_either i (eqb (outgoing (PeriodicContract a)).refusal 0) _ _
     (λ o h. asking l.interval (seconds_of a.interval) (set l.at LI li) g)
     (λ o h. absurd (no_true (sym (eq-eqb _ 0 h) ∙ o))))

@@ -21,9 +21,10 @@ use Rattle.pdu.specs.declared.downlink.AirPdu.{AirPdu}
 use Rattle.pdu.specs.UplinkTable.{ground_alt, ground_c}
 use Rattle.pdu.specs.DownlinkTable.{air_c}
 use Rattle.link.specs.Tests.{below}
-use Rattle.link.specs.Names.{timers, GOES, DATA-REQUEST, ABORT-REQUEST, ABORT-IND, PEER-ABORT-IND}
+use Rattle.link.specs.Names.{timers, DATA-REQUEST, ABORT-REQUEST, ABORT-IND, PEER-ABORT-IND}
 use Rattle.link.specs.Clock.{not_due}
 use Rattle.link.specs.Watch.{idle, li_is}
+use Rattle.link.specs.Moves.{does_go}
 use Rattle.sides.specs.Tables.{member}
 use Rattle.ground_answer.specs.Answers.{START-REQUEST, refusal, allowed}
 use Rattle.ground_answer.specs.Record.{good, move_at, went}
@@ -128,13 +129,13 @@ on-taken : (l : Link) (r : per.Answer AirPdu) → OnA (taken l r)
 unfolding taken passed ended aborted
 on-taken l (got a) =
     let e = air_event a.kind in
-    on-pick (eqb (move_at l LI-ACTIVE e).fate GOES) (on-pick (idle (went l LI-ACTIVE e 0 DATA-REQUEST).at) (ok tt) (ok tt)) (ok tt)
+    on-pick (does_go (move_at l LI-ACTIVE e)) (on-pick (idle (went l LI-ACTIVE e 0 DATA-REQUEST).at) (ok tt) (ok tt)) (ok tt)
 on-taken l (refused n) = ok tt
 
 on-asked : (l : Link) (g : Ground) (li entry : ℕ) → OnA (asked l g li entry)
 unfolding asked
 on-asked l g li entry =
-    on-pick (eqb (move_at l li (request_event g)).fate GOES) (on-pick (eqb (outgoing g).refusal 0) (ok tt) (record { is = on-outgoing g })) (ok tt)
+    on-pick (does_go (move_at l li (request_event g))) (on-pick (eqb (outgoing g).refusal 0) (ok tt) (record { is = on-outgoing g })) (ok tt)
 
 on_call : (l : Link) (c : Call) (s : List ℕ) → OnA (answered l c s)
 unfolding answered requested all_cancelled cancelled user_aborted elapsed waited confirmed rejected arrived late_data end_confirmed over peer_aborted air_aborted failed aborted

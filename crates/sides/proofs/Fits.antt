@@ -12,7 +12,8 @@ use borrow.Author.Tests.{eqb-true, eqb-false, le-leb, lt-leb}
 use Rattle.link.specs.Tests.{both, either, pick, below}
 use Rattle.link.specs.Names.{timers, EM}
 use Rattle.link.specs.Watch.{runs, state_ok}
-use Rattle.link.specs.Moves.{Row, look, still, unlisted, move_in}
+use Rattle.link.specs.declared.moves.Fate.TheVariants.{Refuses, Aborts}
+use Rattle.link.specs.Moves.{Row, look, still, unlisted, move_in, does_go}
 use Rattle.link.specs.Step.{rest_at}
 use Rattle.link.specs.declared.moves.Move.{Move}
 use Rattle.link.proofs.Laws.{both_left, both_right, below_at, no_true}
@@ -52,7 +53,7 @@ still-fits : (b : Tables) (at : List ℕ) (e f : ℕ) → T (fits b at e (unlist
 unfolding fits
 still-fits b at e f = go (leb f 3)
   where
-    go : (x : Bool) → T (fits b at e (pick x (still 1) (still 3)))
+    go : (x : Bool) → T (fits b at e (pick x (still Refuses) (still Aborts)))
     go true = tt
     go false = tt
 
@@ -261,7 +262,7 @@ module _ (b : Tables) (test : T (all_fit b)) where
     pub few-run : count timers (λ t. runs b.watch t at) ≤ 4
     few-run = leb→le _ 4 parts.2
 
-pub goes-balanced : (b : Tables) (at : List ℕ) (e : ℕ) (m : Move) → eqb m.fate 0 ≡ true → T (fits b at e m) → T (balanced b at m) × T (b.also at e m)
+pub goes-balanced : (b : Tables) (at : List ℕ) (e : ℕ) (m : Move) → does_go m ≡ true → T (fits b at e m) → T (balanced b at m) × T (b.also at e m)
 unfolding fits
 goes-balanced b at e m q t =
     let u = subst (λ (x : Bool). T (pick x (both (balanced b at m) (b.also at e m)) true)) q t in

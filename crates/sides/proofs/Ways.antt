@@ -8,7 +8,7 @@ use lib.Dec.{T, eqb, lit≤}
 use lib.ListN.{length, get_or, set, length-append}
 use lib.Seq.{get_or-set_same}
 use Rattle.link.specs.Names.{timers, LI}
-use Rattle.link.specs.Moves.{li_to}
+use Rattle.link.specs.Moves.{li_to, does_go}
 use Rattle.link.specs.Acts.{acts, pushed_all}
 use Rattle.link.specs.Clock.{stops_of}
 use Rattle.link.specs.Step.{acts_of, performed, begun, added, stopped, stopped_then, aborted_all}
@@ -75,7 +75,7 @@ module _ (b : Tables) (test : T (all_fit b)) (v : View) (s : Sound b v) (loads :
   pub first-sound : Sound b (stepped v (record { move = li; send = 0; most = v.most }))
   first-sound = stepped-sound b test v (record { move = li; send = 0; most = v.most }) s first-fit
 
-  module _ (may : T (b.open_to (set v.at li.who li.to))) (e : ℕ) (goes : eqb (move_of b (set v.at li.who li.to) e).fate 0 ≡ true) where
+  module _ (may : T (b.open_to (set v.at li.who li.to))) (e : ℕ) (goes : does_go (move_of b (set v.at li.who li.to) e) ≡ true) where
     pub second-goes : T (balanced b (set v.at li.who li.to) (move_of b (set v.at li.who li.to) e)) × T (b.also (set v.at li.who li.to) e (move_of b (set v.at li.who li.to) e))
     unfolding stepped
     second-goes =

@@ -1,9 +1,9 @@
 -- A side's tables, as data, and the one computed test that they fit its watch table.
 use Rattle.std.specs.Prelude.{Bool, true, false, not, List, [], ◌∷◌, ℕ, zero, suc, ◌+◌, ◌*◌, eqb, leb, length, get_or, set}
 use Rattle.link.specs.Tests.{both, either, pick, below}
-use Rattle.link.specs.Names.{timers, EM, GROUP, GOES}
+use Rattle.link.specs.Names.{timers, EM, GROUP}
 use Rattle.link.specs.Watch.{runs, state_ok}
-use Rattle.link.specs.Moves.{Row, move_in}
+use Rattle.link.specs.Moves.{Row, move_in, does_go}
 use Rattle.link.specs.Step.{rest_at}
 use Rattle.link.specs.declared.moves.Move.{Move}
 use Rattle.link.specs.declared.watch.Watch.{Watch}
@@ -89,7 +89,7 @@ balanced b at m =
 
 -- a move that goes is balanced, and what else the side asks
 unfoldable pub fits : Tables → List ℕ → ℕ → Move → Bool
-fits b at e m = pick (eqb m.fate GOES) (both (balanced b at m) (b.also at e m)) true
+fits b at e m = pick (does_go m) (both (balanced b at m) (b.also at e m)) true
 
 -- a test at each states
 abbrev pub vectors : List ℕ → (List ℕ → Bool) → Bool

@@ -1,4 +1,0 @@
-use Rattle.air_answer.proofs.answer.tell.Goals as goal
-
-pub returns : goal.returns
-returns c = rw c.follow-link.ensures

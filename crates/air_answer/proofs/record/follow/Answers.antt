@@ -1,6 +1,0 @@
-use Rattle.air_answer.specs.Record.{followed}
-use Rattle.air_answer.proofs.record.follow.Goals as goal
-
-pub returns : goal.returns
-unfolding followed
-returns c = c.make.ensures

@@ -1,6 +1,0 @@
-use Rattle.ground.specs.Endings.{failed}
-use Rattle.ground.proofs.endings.down.Goals as goal
-
-pub returns : goal.returns
-unfolding failed
-returns c = rw c.close_when.ensures

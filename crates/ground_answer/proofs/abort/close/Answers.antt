@@ -1,6 +1,0 @@
-use Rattle.ground_answer.specs.Aborts.{closed}
-use Rattle.ground_answer.proofs.abort.close.Goals as goal
-
-pub returns : goal.returns
-unfolding closed
-returns c = rw (c.tell.ensures, c.nothing.ensures, c.stop_then.ensures, c.clear.ensures)

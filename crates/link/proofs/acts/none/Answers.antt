@@ -1,7 +1,0 @@
-use mathlib.Core.Path.{refl}
-use Rattle.link.specs.Acts.{acts}
-use Rattle.link.proofs.acts.none.Goals as goal
-
-pub returns : goal.returns
-unfolding acts
-returns c = refl

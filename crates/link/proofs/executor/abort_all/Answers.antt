@@ -1,4 +1,0 @@
-use Rattle.link.proofs.executor.abort_all.Goals as goal
-
-pub returns : goal.returns
-returns c = rw (c.add.ensures, c.stop_then.ensures)

@@ -1,6 +1,0 @@
-use Rattle.link.specs.Step.{added}
-use Rattle.link.proofs.executor.add.Goals as goal
-
-pub returns : goal.returns
-unfolding added
-returns c = rw c.push-acts.ensures

@@ -1,6 +1,0 @@
-use Rattle.link.specs.Step.{stopped, rest_at}
-use Rattle.link.proofs.executor.stop_all.Goals as goal
-
-pub returns : goal.returns
-unfolding stopped rest_at
-returns c = rw c.stops-acts.ensures
