@@ -1,4 +1,4 @@
--- What follows of the cases that a call meets: what the tables decide once LI has gone to its state, and what is made of a reading. Assumes nothing.
+-- What follows of the cases that a call meets: what is made of a reading. Assumes nothing.
 use mathlib.Core.Path.{◌≡◌, refl, sym, ap, ◌∙◌}
 use mathlib.Core.Bool.{Bool, true, false}
 use mathlib.Core.List.{[], ◌∷◌}
@@ -22,10 +22,6 @@ use Rattle.air_answer.specs.declared.record.AirLink.{AirLink}
 use Rattle.air_answer.specs.Events.{uplink_event, may_come}
 use Rattle.air_answer.specs.Aborts.{aborted}
 use Rattle.air.specs.Arrivals.{passed, taken}
-
-pub decided : (l : AirLink) (k : ℕ) {e d : ℕ} {s : Step} {m : Move} → s ≡ played l (part l (li_to k) 0 ∷ []) → d ≡ e → m ≡ move_of air_tables s.at d → move_at l k e ≡ m
-unfolding move_at played performed begun
-decided l k {e} {d} {s} {m} p q r = sym (r ∙ ap (move_of air_tables s.at) q ∙ ap (λ (x : Step). move_of air_tables x.at e) p)
 
 -- what reads well passes where it may come, and is abort 2 where not
 module _ (l : AirLink) (k : ℕ) (g : Ground) {e : ℕ} {may : Bool} (is : e ≡ uplink_event g) (test : may ≡ may_come k e) where

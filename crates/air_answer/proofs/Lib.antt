@@ -1,3 +1,2 @@
 pub mod Outgoings
-pub mod Tags
 pub mod Own

@@ -1,4 +1,3 @@
-pub mod Moving
 pub mod Asks
 pub mod Keeps
 pub mod Stops

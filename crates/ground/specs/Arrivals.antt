@@ -1,5 +1,5 @@
 -- Data from the aircraft, and the answer to our start: LI's table of 01. The order of refusals is 29, then 2.
-use Rattle.std.specs.Prelude.{List, [], ℕ, eqb}
+use Rattle.std.specs.Prelude.{List, [], ℕ}
 use Rattle.per.specs.Pdu as per
 use Rattle.per.specs.Pdu.{read_pdu, got, refused}
 use Rattle.pdu.specs.declared.uplink.Ground.TheVariants.{CancelEmergencyAck}

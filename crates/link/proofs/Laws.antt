@@ -44,18 +44,12 @@ below_at (suc n) f t k h =
     (λ e. subst (λ (m : ℕ). T (f m)) (sym e) (both_left (f n) (below n f) t))
     (λ l. below_at n f (both_right (f n) (below n f) t) k l)
 
-pub both-1 : (a x : Bool) → a ≡ false → false ≡ both a x
-both-1 a x p = rw p
-
-pub both-2 : (a b x : Bool) → a ≡ true → b ≡ false → false ≡ both a (both b x)
-both-2 a b x p q = rw (p, q)
-
 -- it fails at one below n: it fails
 pub below_fails : (f : ℕ → Bool) (n i : ℕ) → i < n → f i ≡ false → below n f ≡ false
 below_fails f zero i h q = absurd (not-suc-le-zero h)
 below_fails f (suc n) i h q =
     cases (eq-or-lt_of_le (le_of_suc-le-suc h))
-    (λ e. sym (both-1 (f n) (below n f) (subst (λ (m : ℕ). f m ≡ false) e q)))
+    (λ e. rw (subst (λ (m : ℕ). f m ≡ false) e q))
     (λ l. rw (below_fails f n i l q) (both-no (f n)))
   where
     both-no : (a : Bool) → both a false ≡ false
