@@ -11,13 +11,6 @@ use Rattle.pdu.specs.contracts.uplink.Ground.{the_type}
 use Rattle.pdu.specs.declared.uplink.Ground.{Ground}
 use Rattle.pdu.specs.declared.uplink.Ground.TheVariants.{CancelAll, CancelContract, CancelEmergencyAck, DemandContract, EventContract, ModifyEmergency, PeriodicContract, Abort}
 use Rattle.pdu.specs.UplinkTable.{ground_tag}
-use Rattle.link.specs.Moves.{li_to}
-use Rattle.link.specs.Step.{performed, begun}
-use Rattle.link.specs.declared.moves.Move.{Move}
-use Rattle.link.specs.declared.executor.Step.{Step}
-use Rattle.sides.specs.Tables.{move_of}
-use Rattle.air_tables.specs.Tables.{air_tables}
-use Rattle.air_answer.specs.Record.{part, played, move_at}
 use Rattle.air_answer.specs.declared.record.AirLink.{AirLink}
 use Rattle.air_answer.specs.Events.{uplink_event, may_come}
 use Rattle.air_answer.specs.Aborts.{aborted}
