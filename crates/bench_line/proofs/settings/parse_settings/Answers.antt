@@ -28,10 +28,11 @@ pub loop-setting-preserved : goal.loop-setting-preserved
 loop-setting-preserved c = let s = c.args.s.now in
     let l = c.loop-setting in
     let k = timers - (l.setting-index + 1) in
-    let q : timers - l.setting-index ≡ suc k = omega arith in
-    (settings-within k l.setting-index l.setting-items s l.at c.in_ok-n.n c.in_ok-n.ensures l.invariant.0,
+    let q : timers - l.setting-index ≡ suc k = omega arith in (
+      settings-within k l.setting-index l.setting-items s l.at c.in_ok-n.n c.in_ok-n.ensures l.invariant.0,
       settings-more k l.setting-index l.setting-items s l.at c.in_ok-n.n c.in_ok-n.ensures
-      ∙ subst (λ (z : ℕ). settings_from z l.setting-index l.setting-items (drop l.at s) ≡ settings_in s) q l.invariant.1)
+          ∙ subst (λ (z : ℕ). settings_from z l.setting-index l.setting-items (drop l.at s) ≡ settings_in s) q l.invariant.1,
+    )
 
 pub returns-then-at-s : goal.returns-then-at-s
 returns-then-at-s c = let s = c.args.s.now in

@@ -7,8 +7,8 @@ use Rattle.text.proofs.digits.number_step.Goals.{then-s-eq0-via-then-s-eq0, then
 
 pub returns-then-s-eq0 : goal.returns-then-s-eq0
 returns-then-s-eq0 c = elim c.then-s-eq0.branch [
-  then-s-eq0-via-then-s-eq0 w ↦ step-none _ w.if-s-eq0.true |
-  then-s-eq0-via-else-s-eq0+then-s-ne32 w ↦ step-bad c.args.s.now w.if-s-eq0.false w.if-s-ne32.true
+  | then-s-eq0-via-then-s-eq0 w ↦ step-none _ w.if-s-eq0.true
+  | then-s-eq0-via-else-s-eq0+then-s-ne32 w ↦ step-bad c.args.s.now w.if-s-eq0.false w.if-s-ne32.true
 ]
 
 pub returns : goal.returns
