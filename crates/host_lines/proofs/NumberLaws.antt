@@ -14,7 +14,6 @@ use Rattle.text.specs.Numbers.{step_of, with_step}
 use Rattle.text.specs.declared.digits.Stepped.{Stepped}
 use Rattle.text.proofs.Laws.{part-all}
 use Rattle.text.proofs.Counting.{step-used}
-use Rattle.host_lines.specs.declared.fields.Numbers.{Numbers}
 use Rattle.host_lines.specs.Fields.{no_numbers, numbers_from, numbers_in}
 
 module _ (k i : ℕ) (list s : List ℕ) (at : ℕ) (within : at ≤ length s) where

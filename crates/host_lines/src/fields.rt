@@ -90,8 +90,7 @@ fn numbers_in(s: &[u8]) -> Numbers
 {
     let mut list = [0u32; NUMBERS];
     let mut at = 0;
-    let mut i = 0;
-    while i < NUMBERS {
+    for i in 0..NUMBERS {
         if at == s.len() {
             return Numbers {
                 good: true,
@@ -104,7 +103,6 @@ fn numbers_in(s: &[u8]) -> Numbers
         };
         list[i] = n.value;
         at += n.used;
-        i += 1;
     }
     no_numbers()
 }
