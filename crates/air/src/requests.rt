@@ -24,11 +24,10 @@ fn ask(l: AirLink, a: AirPdu, entry: u8) -> Answer
     if m.fate != Fate::Goes {
         return refuse(l, NOT_PERMITTED);
     }
-    let w = write(a);
-    if w.refusal != 0 {
-        return refuse(l, w.refusal);
+    match write(a) {
+        Ok(sent) => tell(l, first.perform(m, most_of(l), entry), 0, sent),
+        Err(refusal) => refuse(l, refusal.number()),
     }
-    tell(l, first.perform(m, most_of(l), entry), 0, w.sent)
 }
 
 // A request or response: in ACTIVE a data request; in START what may open the link is the start response.

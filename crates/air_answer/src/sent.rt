@@ -1,11 +1,12 @@
 // The octets of an aircraft PDU that goes.
 ghost use Rattle.std.specs.Prelude.{◌≡◌, []};
 ghost use Rattle.pdu.specs.DownlinkTable.{bare_air};
-ghost use Rattle.air_answer.specs.Sent.{sent, outgoing};
+ghost use Rattle.air_answer.specs.Sent.{sent, letter, outgoing};
 
 use pdu::downlink::{Air, AirPdu};
 use pdu::encode_air;
 use pdu_parts::lists::no_list;
+use refusals::Refusal;
 
 // The most octets of an aircraft PDU: those of a negative ack with 16 names, which has 916 bits.
 pub const ROOM: usize = 115;
@@ -18,13 +19,6 @@ pub struct Sent {
     pub octets: [u8; ROOM],
 }
 
-// What writing a PDU gave: the refusal's number, or 0 and the octets.
-#[derive(Drop)]
-pub struct Outgoing {
-    pub refusal: u8,
-    pub sent: Sent,
-}
-
 pub fn nothing() -> Sent
     ensures { result ≡ sent [] }
 {
@@ -34,24 +28,13 @@ pub fn nothing() -> Sent
     }
 }
 
-pub fn write(a: AirPdu) -> Outgoing
-    ensures { result ≡ outgoing a }
+// The octets that go, or why the PDU's fields are refused.
+pub fn write(a: AirPdu) -> Result<Sent, Refusal>
+    ensures { letter result ≡ outgoing a }
 {
     let mut octets = [0u8; ROOM];
-    let w = encode_air(a, &mut octets);
-    match w {
-        Ok(n) => Outgoing {
-            refusal: 0,
-            sent: Sent { n, octets },
-        },
-        Err(refusal) => {
-            let sent = nothing();
-            Outgoing {
-                refusal: refusal.number(),
-                sent,
-            }
-        }
-    }
+    let n = encode_air(a, &mut octets)?;
+    Ok(Sent { n, octets })
 }
 
 // The octets of a PDU without a list that the box makes itself.
@@ -59,6 +42,8 @@ pub fn own(kind: Air) -> Sent
     ensures { result ≡ (outgoing (bare_air kind)).sent }
 {
     let list = no_list();
-    let w = write(AirPdu { kind, list });
-    w.sent
+    match write(AirPdu { kind, list }) {
+        Ok(sent) => sent,
+        Err(_) => nothing(),
+    }
 }

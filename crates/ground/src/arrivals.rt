@@ -8,7 +8,7 @@ use ground_answer::abort::abort;
 use ground_answer::answer::*;
 use ground_answer::events::air_event;
 use ground_answer::record::{Link, agree_on, is_good, most_of, turn};
-use ground_answer::sent::{Sent, nothing, write};
+use ground_answer::sent::{Sent, nothing, own};
 use ground_tables::decide::{decide, li_end};
 use ground_tables::names::*;
 use link::actions::DATA_REQUEST;
@@ -26,7 +26,7 @@ fn ack_of(m: Move) -> Sent
     ensures { result ≡ ack_of m }
 {
     if m.send {
-        write(Ground::CancelEmergencyAck).sent
+        own(Ground::CancelEmergencyAck)
     } else {
         nothing()
     }

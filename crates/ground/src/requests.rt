@@ -8,7 +8,7 @@ use ground_answer::abort::close_when;
 use ground_answer::answer::*;
 use ground_answer::events::{CANCEL_ALL, request_event};
 use ground_answer::record::{Link, agree_on, clear, is_good, most_of, turn};
-use ground_answer::sent::write;
+use ground_answer::sent::{own, write};
 use ground_tables::decide::{decide, li_end};
 use ground_tables::names::*;
 use link::actions::{ABORT_REQUEST, DATA_REQUEST};
@@ -44,12 +44,13 @@ fn ask(l: Link, g: Ground, li: u8, entry: u8) -> Answer
     if m.fate != Fate::Goes {
         return refuse(l, NOT_PERMITTED);
     }
-    let w = write(g);
-    if w.refusal != 0 {
-        return refuse(l, w.refusal);
+    match write(g) {
+        Ok(sent) => {
+            let next = agree_on(l, event, asks_for(g), m);
+            tell(next, first.perform(m, most_of(next), entry), 0, sent)
+        }
+        Err(refusal) => refuse(l, refusal.number()),
     }
-    let next = agree_on(l, event, asks_for(g), m);
-    tell(next, first.perform(m, most_of(next), entry), 0, w.sent)
 }
 
 #[tactic(auto, unfolding(crate::specs::Requests::all_cancelled, crate::specs::Requests::cancelled))]
@@ -62,11 +63,11 @@ fn cancel_all(l: Link) -> Answer
     if l.at[4] != LI_ACTIVE {
         return refuse(l, NOT_PERMITTED);
     }
-    let w = write(Ground::CancelAll);
+    let sent = own(Ground::CancelAll);
     let next = clear(l);
     let stopped = Step::stop_all(l.left, LI_ACTIVE);
     let step = stopped.perform(li_end(), most_of(next), END_REQUEST);
-    tell(next, step, 0, w.sent)
+    tell(next, step, 0, sent)
 }
 
 // A request: in LI-IDLE a start request, in ACTIVE a data request or, for cancel-all, the end request.

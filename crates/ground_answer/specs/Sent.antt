@@ -1,10 +1,11 @@
 -- "A PDU to send stands in the answer itself, so calls never give 6."
-use Rattle.std.specs.Prelude.{ℕ, zero, suc, ◌-◌, List, [], ◌++◌, length, replicate}
+use Rattle.std.specs.Prelude.{ℕ, zero, suc, ◌-◌, List, [], ◌++◌, length, replicate, Result, Ok, Err}
+use Rattle.refusals.specs.declared.Refusal.{Refusal}
+use Rattle.refusals.specs.Refusals.{number}
 use Rattle.per.specs.Pdu.{encode}
 use Rattle.pdu.specs.declared.uplink.Ground.{Ground}
 use Rattle.pdu.specs.UplinkTable.{ground_c}
 use Rattle.ground_answer.specs.declared.sent.Sent.{Sent}
-use Rattle.ground_answer.specs.declared.sent.Outgoing.{Outgoing}
 
 -- no ground PDU is longer: an event contract with every element has 129 bits
 abbrev pub SENT-MOST : ℕ
@@ -14,6 +15,11 @@ SENT-MOST = 17
 unfoldable pub sent : List ℕ → Sent
 sent s = record { n = length s; octets = s ++ replicate (SENT-MOST - length s) 0 }
 
+-- what writing a PDU gives: the refusal's number, or 0 and the octets
+pub record Outgoing : Type 0 where
+  pub refusal : ℕ
+  pub sent : Sent
+
 -- the octets of a ground PDU, or the refusal of its fields and none
 unfoldable pub letter_of : ℕ → List ℕ → Outgoing
 letter_of zero s = record { refusal = 0; sent = sent s }
@@ -21,3 +27,8 @@ letter_of (suc n) s = record { refusal = suc n; sent = sent [] }
 
 unfoldable pub outgoing : Ground → Outgoing
 outgoing g = letter_of (ground_c.chk g) (encode ground_c g)
+
+-- the code's answer: the octets, or the refusal and none
+abbrev pub letter : Result Sent Refusal → Outgoing
+letter (Ok s) = record { refusal = 0; sent = s }
+letter (Err r) = record { refusal = number r; sent = sent [] }

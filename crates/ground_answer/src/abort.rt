@@ -4,7 +4,7 @@ ghost use Rattle.ground_answer.specs.Aborts.{closed, aborted, closed_when};
 
 use crate::answer::*;
 use crate::record::{Link, clear, is_good};
-use crate::sent::{nothing, write};
+use crate::sent::{nothing, own};
 use link::executor::Step;
 use pdu::uplink::Ground;
 use refusals::BAD_RECORD;
@@ -22,8 +22,7 @@ fn close(l: Link, entry: u8, reason: u32) -> Answer
 pub fn abort(l: Link, reason: u32) -> Answer
     ensures { result ≡ aborted l reason }
 {
-    let w = write(Ground::Abort(reason));
-    tell(clear(l), Step::abort_all(l.left), reason, w.sent)
+    tell(clear(l), Step::abort_all(l.left), reason, own(Ground::Abort(reason)))
 }
 
 // Everything stops where it may; where not, the call is refused.

@@ -1,9 +1,10 @@
 // The octets of a ground PDU that goes.
 ghost use Rattle.std.specs.Prelude.{◌≡◌, []};
-ghost use Rattle.ground_answer.specs.Sent.{sent, outgoing};
+ghost use Rattle.ground_answer.specs.Sent.{sent, letter, outgoing};
 
 use pdu::encode_ground;
 use pdu::uplink::Ground;
+use refusals::Refusal;
 
 // No ground PDU is longer: an event contract with every element has 129 bits.
 pub const SENT_MOST: usize = 17;
@@ -16,13 +17,6 @@ pub struct Sent {
     pub octets: [u8; SENT_MOST],
 }
 
-// What writing a PDU gave: the refusal's number, or 0 and the octets.
-#[derive(Drop)]
-pub struct Outgoing {
-    pub refusal: u8,
-    pub sent: Sent,
-}
-
 pub fn nothing() -> Sent
     ensures { result ≡ sent [] }
 {
@@ -32,22 +26,21 @@ pub fn nothing() -> Sent
     }
 }
 
-pub fn write(g: Ground) -> Outgoing
-    ensures { result ≡ outgoing g }
+// The octets that go, or why the PDU's fields are refused.
+pub fn write(g: Ground) -> Result<Sent, Refusal>
+    ensures { letter result ≡ outgoing g }
 {
     let mut octets = [0u8; SENT_MOST];
-    let w = encode_ground(g, &mut octets);
-    match w {
-        Ok(n) => Outgoing {
-            refusal: 0,
-            sent: Sent { n, octets },
-        },
-        Err(refusal) => {
-            let sent = nothing();
-            Outgoing {
-                refusal: refusal.number(),
-                sent,
-            }
-        }
+    let n = encode_ground(g, &mut octets)?;
+    Ok(Sent { n, octets })
+}
+
+// The octets of a PDU that the box makes itself.
+pub fn own(g: Ground) -> Sent
+    ensures { result ≡ (outgoing g).sent }
+{
+    match write(g) {
+        Ok(sent) => sent,
+        Err(_) => nothing(),
     }
 }
