@@ -22,7 +22,12 @@ fn close(l: Link, entry: u8, reason: u32) -> Answer
 pub fn abort(l: Link, reason: u32) -> Answer
     ensures { result ≡ aborted l reason }
 {
-    tell(clear(l), Step::abort_all(l.left), reason, own(Ground::Abort(reason)))
+    tell(
+        clear(l),
+        Step::abort_all(l.left),
+        reason,
+        own(Ground::Abort(reason)),
+    )
 }
 
 // Everything stops where it may; where not, the call is refused.
