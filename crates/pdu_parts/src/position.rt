@@ -1,10 +1,8 @@
 // Latitude, longitude and level.
-ghost use Rattle.per.specs.Reading.{Reads};
-ghost use Rattle.per.specs.Writing.{Writes};
-ghost use Rattle.pdu_parts.specs.Reports.{degrees_top, angle_c, position_c};
-ghost use Rattle.per.specs.Formats.{num};
+ghost use Rattle.pdu_parts.specs.Reports.{angle_c, position_c};
 
 use per::cursor::{Cursor, Read, Signed};
+use per::part::Part;
 use per::pen::Pen;
 
 // Degrees, minutes and tenth-seconds. Minus zero and plus zero stay different.
@@ -25,76 +23,66 @@ pub struct Position {
     pub level: Signed,
 }
 
-// Two constant ranges: for one that is handed in the width would be worked out at every call.
-fn read_degrees(c: Cursor, s: &[u8], long: bool) -> Read<u32>
-    ensures { Reads (num 0 (degrees_top long)) s.now c result.value result.next }
-{
-    if long {
-        return c.num(s, 0, 180);
+// An angle of at most TOP degrees: a constant, as for a number that is handed in the width would be worked out at every call.
+pub struct AngleTo<const TOP: u32> {}
+
+pub type Latitude = AngleTo<90>;
+
+pub type Longitude = AngleTo<180>;
+
+impl<const TOP: u32> Part for AngleTo<TOP> {
+    type Value = Angle;
+
+    ghost codec = { angle_c TOP };
+
+    fn read(c: Cursor, s: &[u8]) -> Read<Angle> {
+        let minus = c.flag(s);
+        let degrees = minus.next.num(s, 0, TOP);
+        let minutes = degrees.next.num(s, 0, 59);
+        let tenths = minutes.next.num(s, 0, 599);
+        let value = Angle {
+            minus: minus.value,
+            degrees: degrees.value,
+            minutes: minutes.value,
+            tenths: tenths.value,
+        };
+        Read {
+            value,
+            next: tenths.next,
+        }
     }
-    c.num(s, 0, 90)
-}
 
-fn write_degrees(p: Pen, out: &mut [u8; 128], v: u32, long: bool) -> Pen
-    ensures { Writes (num 0 (degrees_top long)) out.old p v result out.new }
-{
-    if long {
-        return p.num(out, v, 0, 180);
+    fn write(p: Pen, out: &mut [u8; 128], a: Angle) -> Pen {
+        let p = p.flag(out, a.minus);
+        let p = p.num(out, a.degrees, 0, TOP);
+        let p = p.num(out, a.minutes, 0, 59);
+        p.num(out, a.tenths, 0, 599)
     }
-    p.num(out, v, 0, 90)
 }
 
-fn read_angle(c: Cursor, s: &[u8], long: bool) -> Read<Angle>
-    ensures { Reads (angle_c (degrees_top long)) s.now c result.value result.next }
-{
-    let minus = c.flag(s);
-    let degrees = read_degrees(minus.next, s, long);
-    let minutes = degrees.next.num(s, 0, 59);
-    let tenths = minutes.next.num(s, 0, 599);
-    let value = Angle {
-        minus: minus.value,
-        degrees: degrees.value,
-        minutes: minutes.value,
-        tenths: tenths.value,
-    };
-    let next = tenths.next;
-    Read { value, next }
-}
+impl Part for Position {
+    type Value = Position;
 
-fn write_angle(p: Pen, out: &mut [u8; 128], a: Angle, long: bool) -> Pen
-    ensures { Writes (angle_c (degrees_top long)) out.old p a result out.new }
-{
-    let p = p.flag(out, a.minus);
-    let p = write_degrees(p, out, a.degrees, long);
-    let p = p.num(out, a.minutes, 0, 59);
-    p.num(out, a.tenths, 0, 599)
-}
+    ghost codec = { position_c };
 
-pub fn read_position(c: Cursor, s: &[u8]) -> Read<Position>
-    ensures { Reads position_c s.now c result.value result.next }
-{
-    let lat = read_angle(c, s, false);
-    let lon = read_angle(lat.next, s, true);
-    let lev = lon.next.signed(s, 75, 10000);
-    let latitude = lat.value;
-    let longitude = lon.value;
-    let level = lev.value;
-    let value = Position {
-        latitude,
-        longitude,
-        level,
-    };
-    let next = lev.next;
-    Read { value, next }
-}
+    fn read(c: Cursor, s: &[u8]) -> Read<Position> {
+        let latitude = Latitude::read(c, s);
+        let longitude = Longitude::read(latitude.next, s);
+        let level = longitude.next.signed(s, 75, 10000);
+        let value = Position {
+            latitude: latitude.value,
+            longitude: longitude.value,
+            level: level.value,
+        };
+        Read {
+            value,
+            next: level.next,
+        }
+    }
 
-pub fn write_position(p: Pen, out: &mut [u8; 128], a: Position) -> Pen
-    ensures { Writes position_c out.old p a result out.new }
-{
-    let latitude = a.latitude;
-    let longitude = a.longitude;
-    let level = a.level;
-    let p = write_angle(p, out, latitude, false);
-    let p = write_angle(p, out, longitude, true);
-    p.signed(out, level, 75, 10000)
+    fn write(p: Pen, out: &mut [u8; 128], a: Position) -> Pen {
+        let p = Latitude::write(p, out, a.latitude);
+        let p = Longitude::write(p, out, a.longitude);
+        p.signed(out, a.level, 75, 10000)
+    }
 }

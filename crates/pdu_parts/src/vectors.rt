@@ -1,12 +1,11 @@
 // Ground vector, air vector and weather: elements of a report, each with presence bits of its own. A vector with nothing in it is one.
 ghost use Rattle.std.specs.Prelude.{◌≡◌, not, eqb};
-ghost use Rattle.per.specs.Formats.{when, signed};
-ghost use Rattle.per.specs.Reading.{Reads};
-ghost use Rattle.per.specs.Writing.{Writes};
+ghost use Rattle.per.specs.Formats.{signed};
 ghost use Rattle.pdu_parts.specs.Vectors.{none, ground_vector_c, no_ground_vector, air_speed_c, no_speed, air_vector_c, no_air_vector, weather_c, no_weather};
 
 use crate::elements::*;
 use per::cursor::{Cursor, Read, Signed, present};
+use per::part::{Element, Part};
 use per::pen::Pen;
 
 // Track in tenths of a degree, speed in knots, vertical rate in tens of feet a minute.
@@ -49,95 +48,80 @@ pub struct Weather {
     pub turbulence: u32,
 }
 
-pub fn read_signed_if(c: Cursor, s: &[u8], present: bool, below: u16, top: u16) -> Read<Signed>
-    ensures { Reads (when present none (signed below top)) s.now c result.value result.next }
-{
-    if present {
-        return c.signed(s, below, top);
+// A number of -BELOW..TOP.
+pub struct SignedIn<const BELOW: u16, const TOP: u16> {}
+
+pub type GroundSpeed = SignedIn<50, 2200>;
+
+pub type Rate = SignedIn<3000, 3000>;
+
+pub type Temperature = SignedIn<400, 400>;
+
+impl<const BELOW: u16, const TOP: u16> Part for SignedIn<BELOW, TOP> {
+    type Value = Signed;
+
+    ghost codec = { signed BELOW TOP };
+
+    fn read(c: Cursor, s: &[u8]) -> Read<Signed> {
+        c.signed(s, BELOW, TOP)
     }
-    Read {
-        value: Signed { number: 0 },
-        next: c,
+
+    fn write(p: Pen, out: &mut [u8; 128], a: Signed) -> Pen {
+        p.signed(out, a, BELOW, TOP)
     }
 }
 
-pub fn write_signed_if(
-    p: Pen,
-    out: &mut [u8; 128],
-    present: bool,
-    v: Signed,
-    below: u16,
-    top: u16,
-) -> Pen
-    ensures { Writes (when present none (signed below top)) out.old p v result out.new }
-{
-    if present {
-        return p.signed(out, v, below, top);
+impl<const BELOW: u16, const TOP: u16> Element for SignedIn<BELOW, TOP> {
+    ghost none = { none };
+
+    fn none() -> Signed {
+        Signed { number: 0 }
     }
-    p
 }
 
-fn read_ground_vector(c: Cursor, s: &[u8]) -> Read<GroundVector>
-    ensures { Reads ground_vector_c s.now c result.value result.next }
-{
-    let bits = c.mask(s, VECTOR_BITS, VECTOR_BITS, false);
-    let v = bits.value;
-    let track = bits.next.num_if(s, present(v, TRACK), 1, 3600);
-    let sp = read_signed_if(track.next, s, present(v, GROUND_SPEED), 50, 2200);
-    let ra = read_signed_if(sp.next, s, present(v, GROUND_RATE), 3000, 3000);
-    let speed = sp.value;
-    let rate = ra.value;
-    let value = GroundVector {
-        elements: v,
-        track: track.value,
-        speed,
-        rate,
-    };
-    let next = ra.next;
-    Read { value, next }
-}
+impl Part for GroundVector {
+    type Value = GroundVector;
 
-fn write_ground_vector(p: Pen, out: &mut [u8; 128], a: GroundVector) -> Pen
-    ensures { Writes ground_vector_c out.old p a result out.new }
-{
-    let v = a.elements;
-    let speed = a.speed;
-    let rate = a.rate;
-    let p = p.mask(out, v, VECTOR_BITS, VECTOR_BITS, false);
-    let p = p.num_if(out, present(v, TRACK), a.track, 1, 3600);
-    let p = write_signed_if(p, out, present(v, GROUND_SPEED), speed, 50, 2200);
-    write_signed_if(p, out, present(v, GROUND_RATE), rate, 3000, 3000)
-}
+    ghost codec = { ground_vector_c };
 
-pub(crate) fn read_ground_vector_if(c: Cursor, s: &[u8], present: bool) -> Read<GroundVector>
-    ensures { Reads (when present no_ground_vector ground_vector_c) s.now c result.value result.next }
-{
-    if present {
-        return read_ground_vector(c, s);
+    fn read(c: Cursor, s: &[u8]) -> Read<GroundVector> {
+        let bits = c.mask(s, VECTOR_BITS, VECTOR_BITS, false);
+        let v = bits.value;
+        let track = bits.next.num_if(s, present(v, TRACK), 1, 3600);
+        let speed = GroundSpeed::read_if(track.next, s, present(v, GROUND_SPEED));
+        let rate = Rate::read_if(speed.next, s, present(v, GROUND_RATE));
+        let value = GroundVector {
+            elements: v,
+            track: track.value,
+            speed: speed.value,
+            rate: rate.value,
+        };
+        Read {
+            value,
+            next: rate.next,
+        }
     }
-    let speed = Signed { number: 0 };
-    let rate = Signed { number: 0 };
-    let value = GroundVector {
-        elements: 0,
-        track: 0,
-        speed,
-        rate,
-    };
-    Read { value, next: c }
+
+    fn write(p: Pen, out: &mut [u8; 128], a: GroundVector) -> Pen {
+        let v = a.elements;
+        let p = p.mask(out, v, VECTOR_BITS, VECTOR_BITS, false);
+        let p = p.num_if(out, present(v, TRACK), a.track, 1, 3600);
+        let p = GroundSpeed::write_if(p, out, present(v, GROUND_SPEED), a.speed);
+        Rate::write_if(p, out, present(v, GROUND_RATE), a.rate)
+    }
 }
 
-pub(crate) fn write_ground_vector_if(
-    p: Pen,
-    out: &mut [u8; 128],
-    present: bool,
-    a: GroundVector,
-) -> Pen
-    ensures { Writes (when present no_ground_vector ground_vector_c) out.old p a result out.new }
-{
-    if present {
-        return write_ground_vector(p, out, a);
+impl Element for GroundVector {
+    ghost none = { no_ground_vector };
+
+    fn none() -> GroundVector {
+        GroundVector {
+            elements: 0,
+            track: 0,
+            speed: GroundSpeed::none(),
+            rate: Rate::none(),
+        }
     }
-    p
 }
 
 // An air speed has Mach, or not.
@@ -153,169 +137,135 @@ fn has_ias(kind: u32) -> bool
     kind != 0
 }
 
-fn read_air_speed(c: Cursor, s: &[u8]) -> Read<AirSpeed>
-    ensures { Reads air_speed_c s.now c result.value result.next }
-{
-    let kind = c.index(s, 2);
-    let mach = kind.next.num_if(s, has_mach(kind.value), 500, 4000);
-    let ias = mach.next.num_if(s, has_ias(kind.value), 0, 1100);
-    let value = AirSpeed {
-        kind: kind.value,
-        mach: mach.value,
-        ias: ias.value,
-    };
-    let next = ias.next;
-    Read { value, next }
-}
+impl Part for AirSpeed {
+    type Value = AirSpeed;
 
-fn write_air_speed(p: Pen, out: &mut [u8; 128], a: AirSpeed) -> Pen
-    ensures { Writes air_speed_c out.old p a result out.new }
-{
-    let p = p.index(out, a.kind, 2);
-    let p = p.num_if(out, has_mach(a.kind), a.mach, 500, 4000);
-    p.num_if(out, has_ias(a.kind), a.ias, 0, 1100)
-}
+    ghost codec = { air_speed_c };
 
-fn read_air_speed_if(c: Cursor, s: &[u8], present: bool) -> Read<AirSpeed>
-    ensures { Reads (when present no_speed air_speed_c) s.now c result.value result.next }
-{
-    if present {
-        return read_air_speed(c, s);
+    fn read(c: Cursor, s: &[u8]) -> Read<AirSpeed> {
+        let kind = c.index(s, 2);
+        let mach = kind.next.num_if(s, has_mach(kind.value), 500, 4000);
+        let ias = mach.next.num_if(s, has_ias(kind.value), 0, 1100);
+        let value = AirSpeed {
+            kind: kind.value,
+            mach: mach.value,
+            ias: ias.value,
+        };
+        Read {
+            value,
+            next: ias.next,
+        }
     }
-    let value = AirSpeed {
-        kind: 0,
-        mach: 0,
-        ias: 0,
-    };
-    Read { value, next: c }
-}
 
-fn write_air_speed_if(p: Pen, out: &mut [u8; 128], present: bool, a: AirSpeed) -> Pen
-    ensures { Writes (when present no_speed air_speed_c) out.old p a result out.new }
-{
-    if present {
-        return write_air_speed(p, out, a);
+    fn write(p: Pen, out: &mut [u8; 128], a: AirSpeed) -> Pen {
+        let p = p.index(out, a.kind, 2);
+        let p = p.num_if(out, has_mach(a.kind), a.mach, 500, 4000);
+        p.num_if(out, has_ias(a.kind), a.ias, 0, 1100)
     }
-    p
 }
 
-fn read_air_vector(c: Cursor, s: &[u8]) -> Read<AirVector>
-    ensures { Reads air_vector_c s.now c result.value result.next }
-{
-    let bits = c.mask(s, VECTOR_BITS, VECTOR_BITS, false);
-    let v = bits.value;
-    let heading = bits.next.num_if(s, present(v, HEADING), 1, 3600);
-    let sp = read_air_speed_if(heading.next, s, present(v, AIR_SPEED));
-    let ra = read_signed_if(sp.next, s, present(v, AIR_RATE), 3000, 3000);
-    let speed = sp.value;
-    let rate = ra.value;
-    let value = AirVector {
-        elements: v,
-        heading: heading.value,
-        speed,
-        rate,
-    };
-    let next = ra.next;
-    Read { value, next }
-}
+impl Element for AirSpeed {
+    ghost none = { no_speed };
 
-fn write_air_vector(p: Pen, out: &mut [u8; 128], a: AirVector) -> Pen
-    ensures { Writes air_vector_c out.old p a result out.new }
-{
-    let v = a.elements;
-    let speed = a.speed;
-    let rate = a.rate;
-    let p = p.mask(out, v, VECTOR_BITS, VECTOR_BITS, false);
-    let p = p.num_if(out, present(v, HEADING), a.heading, 1, 3600);
-    let p = write_air_speed_if(p, out, present(v, AIR_SPEED), speed);
-    write_signed_if(p, out, present(v, AIR_RATE), rate, 3000, 3000)
-}
-
-pub(crate) fn read_air_vector_if(c: Cursor, s: &[u8], present: bool) -> Read<AirVector>
-    ensures { Reads (when present no_air_vector air_vector_c) s.now c result.value result.next }
-{
-    if present {
-        return read_air_vector(c, s);
+    fn none() -> AirSpeed {
+        AirSpeed {
+            kind: 0,
+            mach: 0,
+            ias: 0,
+        }
     }
-    let speed = AirSpeed {
-        kind: 0,
-        mach: 0,
-        ias: 0,
-    };
-    let rate = Signed { number: 0 };
-    let value = AirVector {
-        elements: 0,
-        heading: 0,
-        speed,
-        rate,
-    };
-    Read { value, next: c }
 }
 
-pub(crate) fn write_air_vector_if(p: Pen, out: &mut [u8; 128], present: bool, a: AirVector) -> Pen
-    ensures { Writes (when present no_air_vector air_vector_c) out.old p a result out.new }
-{
-    if present {
-        return write_air_vector(p, out, a);
+impl Part for AirVector {
+    type Value = AirVector;
+
+    ghost codec = { air_vector_c };
+
+    fn read(c: Cursor, s: &[u8]) -> Read<AirVector> {
+        let bits = c.mask(s, VECTOR_BITS, VECTOR_BITS, false);
+        let v = bits.value;
+        let heading = bits.next.num_if(s, present(v, HEADING), 1, 3600);
+        let speed = AirSpeed::read_if(heading.next, s, present(v, AIR_SPEED));
+        let rate = Rate::read_if(speed.next, s, present(v, AIR_RATE));
+        let value = AirVector {
+            elements: v,
+            heading: heading.value,
+            speed: speed.value,
+            rate: rate.value,
+        };
+        Read {
+            value,
+            next: rate.next,
+        }
     }
-    p
-}
 
-fn read_weather(c: Cursor, s: &[u8]) -> Read<Weather>
-    ensures { Reads weather_c s.now c result.value result.next }
-{
-    let bits = c.mask(s, WEATHER_BITS, WEATHER_BITS, false);
-    let v = bits.value;
-    let speed = bits.next.num_if(s, present(v, WIND_SPEED), 0, 300);
-    let direction = speed.next.num_if(s, present(v, WIND_DIRECTION), 1, 360);
-    let te = read_signed_if(direction.next, s, present(v, TEMPERATURE), 400, 400);
-    let turbulence = te.next.num_if(s, present(v, TURBULENCE), 0, 15);
-    let temperature = te.value;
-    let value = Weather {
-        elements: v,
-        speed: speed.value,
-        direction: direction.value,
-        temperature,
-        turbulence: turbulence.value,
-    };
-    let next = turbulence.next;
-    Read { value, next }
-}
-
-fn write_weather(p: Pen, out: &mut [u8; 128], a: Weather) -> Pen
-    ensures { Writes weather_c out.old p a result out.new }
-{
-    let v = a.elements;
-    let temperature = a.temperature;
-    let p = p.mask(out, v, WEATHER_BITS, WEATHER_BITS, false);
-    let p = p.num_if(out, present(v, WIND_SPEED), a.speed, 0, 300);
-    let p = p.num_if(out, present(v, WIND_DIRECTION), a.direction, 1, 360);
-    let p = write_signed_if(p, out, present(v, TEMPERATURE), temperature, 400, 400);
-    p.num_if(out, present(v, TURBULENCE), a.turbulence, 0, 15)
-}
-
-pub(crate) fn read_weather_if(c: Cursor, s: &[u8], present: bool) -> Read<Weather>
-    ensures { Reads (when present no_weather weather_c) s.now c result.value result.next }
-{
-    if present {
-        return read_weather(c, s);
+    fn write(p: Pen, out: &mut [u8; 128], a: AirVector) -> Pen {
+        let v = a.elements;
+        let p = p.mask(out, v, VECTOR_BITS, VECTOR_BITS, false);
+        let p = p.num_if(out, present(v, HEADING), a.heading, 1, 3600);
+        let p = AirSpeed::write_if(p, out, present(v, AIR_SPEED), a.speed);
+        Rate::write_if(p, out, present(v, AIR_RATE), a.rate)
     }
-    let temperature = Signed { number: 0 };
-    let value = Weather {
-        elements: 0,
-        speed: 0,
-        direction: 0,
-        temperature,
-        turbulence: 0,
-    };
-    Read { value, next: c }
 }
 
-pub(crate) fn write_weather_if(p: Pen, out: &mut [u8; 128], present: bool, a: Weather) -> Pen
-    ensures { Writes (when present no_weather weather_c) out.old p a result out.new }
-{
-    if present {
-        return write_weather(p, out, a);
+impl Element for AirVector {
+    ghost none = { no_air_vector };
+
+    fn none() -> AirVector {
+        AirVector {
+            elements: 0,
+            heading: 0,
+            speed: AirSpeed::none(),
+            rate: Rate::none(),
+        }
     }
-    p
+}
+
+impl Part for Weather {
+    type Value = Weather;
+
+    ghost codec = { weather_c };
+
+    fn read(c: Cursor, s: &[u8]) -> Read<Weather> {
+        let bits = c.mask(s, WEATHER_BITS, WEATHER_BITS, false);
+        let v = bits.value;
+        let speed = bits.next.num_if(s, present(v, WIND_SPEED), 0, 300);
+        let direction = speed.next.num_if(s, present(v, WIND_DIRECTION), 1, 360);
+        let temperature = Temperature::read_if(direction.next, s, present(v, TEMPERATURE));
+        let turbulence = temperature.next.num_if(s, present(v, TURBULENCE), 0, 15);
+        let value = Weather {
+            elements: v,
+            speed: speed.value,
+            direction: direction.value,
+            temperature: temperature.value,
+            turbulence: turbulence.value,
+        };
+        Read {
+            value,
+            next: turbulence.next,
+        }
+    }
+
+    fn write(p: Pen, out: &mut [u8; 128], a: Weather) -> Pen {
+        let v = a.elements;
+        let p = p.mask(out, v, WEATHER_BITS, WEATHER_BITS, false);
+        let p = p.num_if(out, present(v, WIND_SPEED), a.speed, 0, 300);
+        let p = p.num_if(out, present(v, WIND_DIRECTION), a.direction, 1, 360);
+        let p = Temperature::write_if(p, out, present(v, TEMPERATURE), a.temperature);
+        p.num_if(out, present(v, TURBULENCE), a.turbulence, 0, 15)
+    }
+}
+
+impl Element for Weather {
+    ghost none = { no_weather };
+
+    fn none() -> Weather {
+        Weather {
+            elements: 0,
+            speed: 0,
+            direction: 0,
+            temperature: Temperature::none(),
+            turbulence: 0,
+        }
+    }
 }

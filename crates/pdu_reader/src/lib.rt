@@ -11,9 +11,10 @@ ghost use Rattle.pdu.specs.UplinkTable.{ground_c};
 ghost use Rattle.pdu.specs.Answers.{heard};
 
 use pdu::answer;
-use pdu::downlink::{AirPdu, read_air};
-use pdu::uplink::{Ground, read_ground};
+use pdu::downlink::AirPdu;
+use pdu::uplink::Ground;
 use per::cursor::{Cursor, Read, Signed};
+use per::part::Part;
 use refusals::Refusal;
 
 // The octets of a PDU, and the place in them with the first refusal met.
@@ -105,14 +106,14 @@ impl<'a> Reader<'a> {
     pub fn air(self) -> Read<AirPdu>
         ensures { Reads air_c self.entry.octets.now self.entry.place result.value result.next }
     {
-        read_air(self.place, self.octets)
+        AirPdu::read(self.place, self.octets)
     }
 
     // A whole ground PDU.
     pub fn ground(self) -> Read<Ground>
         ensures { Reads ground_c self.entry.octets.now self.entry.place result.value result.next }
     {
-        read_ground(self.place, self.octets)
+        Ground::read(self.place, self.octets)
     }
 
     // The same octets, at another place.

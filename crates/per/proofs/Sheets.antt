@@ -1,13 +1,12 @@
 -- What stands on a sheet: blank octets with bits written hold those bits and then zeros; so the octets put out are the value's PDU. Assumes nothing.
-use Prim.Native.Nat.{ℕ, zero, suc, ◌+◌, ◌-◌, ◌*◌, ◌/◌, ◌%◌, ◌≤◌, ◌<◌}
+use Prim.Native.Nat.{ℕ, zero, suc, ◌+◌, ◌-◌, ◌*◌, ◌/◌, ◌%◌, min, ◌≤◌, ◌<◌}
 use mathlib.Core.Path.{◌≡◌, refl, sym, ap, ◌∙◌}
 use mathlib.Core.Bool.{Bool, true, false, cond, ◌&&◌}
 use mathlib.Core.List.{List, [], ◌∷◌, ◌++◌, append_assoc}
 use native.Mathlib.Nat.{suc-add}
-use native.Mathlib.Numerals.{add-one}
 use native.Mathlib.Omega.{arith}
 use lib.ListN.{length, get_or, set, take, drop, replicate, length-append, length-drop, length-set, length-replicate, replicate-append-replicate}
-use lib.Seq.{set-append_left, set-append_seam, set_at, drop-append-le, drop-cons, take-suc, length-take-le, append_snoc}
+use lib.Seq.{set-append_left, set-append_seam, drop-append-le, length-take-le}
 use lib.Dec.{eqb, leb, ltb}
 use borrow.Author.Tests.{ltb-true, ltb-false, lt-ltb, le-leb, lt-leb}
 use Rattle.std.specs.Prelude.{Result}
@@ -152,14 +151,9 @@ take-pack (suc n) (suc m) x y l h =
     (ap (λ (k : List Bool). k ++ y) (num-back 8 x 0 (omega arith)) ∙ append_assoc (to_bits 8 (num_at x 0 8)) (drop 8 x) y) in
     rw (v, d, take-pack n m (drop 8 x) y (omega (arith, length-drop 8 x)) (omega arith))
 
--- ---- the copy
-pub copy_step : (s o : List ℕ) (i : ℕ) → i < length s → i < length o → set (take i s ++ drop i o) i (get_or s i 0) ≡ take (i + 1) s ++ drop (i + 1) o
-copy_step s o i h l =
-    let d : drop i o ≡ get_or o i 0 ∷ drop (suc i) o = drop-cons o i 0 l in
-    rw (d, add-one i, set_at (take i s) (get_or o i 0) (drop (suc i) o) (get_or s i 0) i (length-take-le i s (omega arith)), take-suc s i 0 h) (sym (append_snoc (take i s) (get_or s i 0) (drop (suc i) o)))
-
-pub copy-long : (s o : List ℕ) (i : ℕ) → i ≤ length s → i ≤ length o → length (take i s ++ drop i o) ≡ length o
-copy-long s o i h l = length-append (take i s) (drop i o) ∙ omega (arith, length-take-le i s h, length-drop i o)
+-- ---- how many octets n bits lie in
+pub octets-for-is : (n : ℕ) → n / 8 + min 1 (n % 8) ≡ octets_for n
+octets-for-is n = omega arith
 
 -- ---- the ways out of a delivery
 module _ (p : Pen) (s o : List ℕ) where

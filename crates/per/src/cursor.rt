@@ -27,6 +27,21 @@ pub struct Read<T> {
     pub next: Cursor,
 }
 
+impl<T> Read<T> {
+    // The same reading, with another value made of what was read.
+    pub fn map<U, F: FnOnce(T) -> U>(self, f: F) -> Read<U>
+        requires { F.pre f self.value }
+        ensures value { F.post f self.value result.value }
+        ensures next { result.next ≡ self.next }
+    {
+        let next = self.next;
+        Read {
+            value: f(self.value),
+            next,
+        }
+    }
+}
+
 // A number with a sign.
 #[derive(Drop)]
 #[derive(Clone, Copy)]
@@ -49,16 +64,13 @@ fn refused<T>(value: T, at: usize, refusal: Refusal) -> Read<T>
 fn above(lo: u32, hi: u32, v: u32) -> bool
     ensures { result ≡ not (leb (lo + v) hi) }
 {
-    if hi < lo {
-        return true;
-    }
-    hi - lo < v
+    hi < lo || hi - lo < v
 }
 
 fn span(lo: u32, hi: u32) -> u32
     ensures { result ≡ hi - lo }
 {
-    if lo < hi { hi - lo } else { 0 }
+    hi.saturating_sub(lo)
 }
 
 fn extension_bad(v: u32) -> Option<Refusal>
@@ -87,10 +99,8 @@ pub fn mask_bad(v: u32, carried: u32, need: bool) -> Option<Refusal>
     if v & carried != v {
         return Some(Refusal::NotCarried);
     }
-    if need {
-        if v == 0 {
-            return Some(Refusal::NoElement);
-        }
+    if need && v == 0 {
+        return Some(Refusal::NoElement);
     }
     None
 }
@@ -170,8 +180,7 @@ impl Cursor {
     fn settle(self, t: Read<u32>, bad: Option<Refusal>) -> Read<u32>
         ensures { seen_read result ≡ settled (seen self) (seen_read t) (number_or_none bad) }
     {
-        let n = t.next;
-        if n.refusal.is_some() {
+        if t.next.refusal.is_some() {
             return t;
         }
         if let Some(refusal) = bad {
@@ -185,17 +194,15 @@ impl Cursor {
         ensures { Reads (num lo hi) s.now self result.value result.next }
     {
         let t = self.take(s, width_of(span(lo, hi)));
-        let n = t.next;
-        let v = t.value;
-        if n.refusal.is_some() {
+        if t.next.refusal.is_some() {
             return t;
         }
-        if above(lo, hi, v) {
+        if above(lo, hi, t.value) {
             return refused(0, self.at, Refusal::AboveRange);
         }
         Read {
-            value: lo + v,
-            next: n,
+            value: lo + t.value,
+            next: t.next,
         }
     }
 
@@ -224,10 +231,9 @@ impl Cursor {
         ensures { Reads flag s.now self result.value result.next }
     {
         let t = self.take(s, 1);
-        let n = t.next;
         Read {
             value: t.value == 1,
-            next: n,
+            next: t.next,
         }
     }
 
@@ -262,21 +268,19 @@ impl Cursor {
     {
         let most = top as u32 + below as u32;
         let t = self.take(s, width_of(most));
-        let n = t.next;
-        let v = t.value;
-        if n.refusal.is_some() {
+        if t.next.refusal.is_some() {
             return Read {
                 value: Signed { number: 0 },
-                next: n,
+                next: t.next,
             };
         }
-        if most < v {
+        if most < t.value {
             return refused(Signed { number: 0 }, self.at, Refusal::AboveRange);
         }
-        let number = v as i32 - below as i32;
+        let number = t.value as i32 - below as i32;
         Read {
             value: Signed { number },
-            next: n,
+            next: t.next,
         }
     }
 

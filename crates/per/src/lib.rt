@@ -2,6 +2,7 @@
 #![tactic(auto)]
 
 pub mod cursor;
+pub mod part;
 pub mod pen;
 pub mod read_bits;
 mod write_bits;

@@ -1,5 +1,5 @@
 // Writing: a pen by value over 128 lent octets that keeps its first refusal. From then on it writes nothing.
-ghost use Rattle.std.specs.Prelude.{◌≡◌, ◌≤◌, ◌++◌, length, take, drop};
+ghost use Rattle.std.specs.Prelude.{◌≡◌, ◌≤◌};
 ghost use Rattle.refusals.specs.Refusals.{number};
 ghost use Rattle.per.specs.Places.{seen_pen};
 ghost use Rattle.per.specs.Bits.{of_bit};
@@ -8,8 +8,8 @@ ghost use Rattle.per.specs.Writing.{onward, barred, Writes, Delivers};
 ghost use Rattle.per.specs.WritingInner.{Inked, Raised};
 
 use crate::cursor::{Signed, mask_bad};
-use crate::read_bits::width_of;
-use crate::write_bits::{pow2, put_bits};
+use crate::read_bits::{pow2, width_of};
+use crate::write_bits::put_bits;
 use refusals::Refusal;
 
 // Where writing stands, and the first refusal it met.
@@ -17,18 +17,6 @@ use refusals::Refusal;
 pub struct Pen {
     pub at: usize,
     pub refusal: Option<Refusal>,
-}
-
-// The first n octets of a sheet, put into an output.
-fn copy(sheet: &[u8], n: usize, out: &mut [u8])
-    requires { (n ≤ length sheet.now) × (n ≤ length out.old) }
-    ensures { out.new ≡ take n sheet.now ++ drop n out.old }
-{
-    let mut i: usize = 0;
-    while i < n {
-        out[i] = sheet[i];
-        i = i + 1;
-    }
 }
 
 // The place after w bits; past 128 octets a pen moves no more.
@@ -39,10 +27,7 @@ fn onward_of(at: usize, w: usize) -> usize
     if 1025 <= at {
         return at;
     }
-    if 1025 < at + w {
-        return 1025;
-    }
-    at + w
+    (at + w).min(1025)
 }
 
 fn bit_of(b: bool) -> u32
@@ -57,10 +42,7 @@ fn raise(z: Signed, below: u16, top: u16) -> u32
 {
     let sum = z.number as i64 + below as i64;
     let most = top as i64 + below as i64;
-    if sum < 0 {
-        return top as u32 + below as u32 + 1;
-    }
-    if most < sum {
+    if sum < 0 || most < sum {
         return top as u32 + below as u32 + 1;
     }
     sum as u32
@@ -85,8 +67,8 @@ impl Pen {
             return self;
         }
         Pen {
-            at: self.at,
             refusal: Some(refusal),
+            ..self
         }
     }
 
@@ -95,10 +77,9 @@ impl Pen {
         requires { w ≤ 32 }
         ensures { Inked out.old (seen_pen self) w v (seen_pen result) out.new }
     {
-        let at = self.at;
-        put_bits(out, at, w, v);
+        put_bits(out, self.at, w, v);
         Pen {
-            at: onward_of(at, w),
+            at: onward_of(self.at, w),
             refusal: None,
         }
     }
@@ -107,20 +88,13 @@ impl Pen {
     pub fn put(self, out: &mut [u8; 128], w: usize, v: u32) -> Pen
         ensures { Writes (run w) out.old self v result out.new }
     {
-        let at = self.at;
         if self.refusal.is_some() {
             return self;
         }
-        if 32 < w {
+        if 32 < w || pow2(w) <= v as u64 {
             return Pen {
-                at,
                 refusal: Some(Refusal::OutOfRange),
-            };
-        }
-        if pow2(w) <= v as u64 {
-            return Pen {
-                at,
-                refusal: Some(Refusal::OutOfRange),
+                ..self
             };
         }
         self.ink(out, w, v)
@@ -130,20 +104,13 @@ impl Pen {
     pub fn num(self, out: &mut [u8; 128], v: u32, lo: u32, hi: u32) -> Pen
         ensures { Writes (num lo hi) out.old self v result out.new }
     {
-        let at = self.at;
         if self.refusal.is_some() {
             return self;
         }
-        if v < lo {
+        if v < lo || hi < v {
             return Pen {
-                at,
                 refusal: Some(Refusal::OutOfRange),
-            };
-        }
-        if hi < v {
-            return Pen {
-                at,
-                refusal: Some(Refusal::OutOfRange),
+                ..self
             };
         }
         self.ink(out, width_of(hi - lo), v - lo)
@@ -190,14 +157,13 @@ impl Pen {
     pub fn count(self, out: &mut [u8; 128], n: u32) -> Pen
         ensures { Writes count out.old self n result out.new }
     {
-        let at = self.at;
         if self.refusal.is_some() {
             return self;
         }
         if 16 < n {
             return Pen {
-                at,
                 refusal: Some(Refusal::ListOver),
+                ..self
             };
         }
         self.ink(out, 8, n)
@@ -207,19 +173,21 @@ impl Pen {
     pub fn mask(self, out: &mut [u8; 128], v: u32, all: u32, carried: u32, need: bool) -> Pen
         ensures { Writes (mask all carried need) out.old self v result out.new }
     {
-        let at = self.at;
         let bad = mask_bad(v, carried, need);
         if self.refusal.is_some() {
             return self;
         }
         if all < v {
             return Pen {
-                at,
                 refusal: Some(Refusal::OutOfRange),
+                ..self
             };
         }
         if bad.is_some() {
-            return Pen { at, refusal: bad };
+            return Pen {
+                refusal: bad,
+                ..self
+            };
         }
         self.num(out, v, 0, all)
     }
@@ -228,7 +196,6 @@ impl Pen {
     pub fn signed(self, out: &mut [u8; 128], v: Signed, below: u16, top: u16) -> Pen
         ensures { Writes (signed below top) out.old self v result out.new }
     {
-        let at = self.at;
         let most = top as u32 + below as u32;
         let sent = raise(v, below, top);
         if self.refusal.is_some() {
@@ -236,8 +203,8 @@ impl Pen {
         }
         if most < sent {
             return Pen {
-                at,
                 refusal: Some(Refusal::OutOfRange),
+                ..self
             };
         }
         self.ink(out, width_of(most), sent)
@@ -247,18 +214,14 @@ impl Pen {
     pub fn deliver(self, sheet: &[u8], out: &mut [u8]) -> Result<usize, Refusal>
         ensures { Delivers self sheet.now out.old result out.new }
     {
-        let at = self.at;
-        let n = at / 8 + (at % 8 + 7) / 8;
+        let n = self.at.div_ceil(8);
         if let Some(refusal) = self.refusal {
             return Err(refusal);
         }
-        if sheet.len() < n {
+        if sheet.len() < n || out.len() < n {
             return Err(Refusal::NoRoom);
         }
-        if out.len() < n {
-            return Err(Refusal::NoRoom);
-        }
-        copy(sheet, n, out);
+        out[..n].copy_from_slice(&sheet[..n]);
         Ok(n)
     }
 }

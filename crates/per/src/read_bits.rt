@@ -3,13 +3,13 @@ ghost use Rattle.std.specs.Prelude.{◌≡◌, ◌+◌, ◌-◌, ◌*◌, ◌^�
 ghost use Rattle.per.specs.Bits.{num_at, width};
 ghost use Rattle.per.specs.Pdu.{window, fill};
 
-fn wide(x: u8) -> u64
-    ensures { result ≡ x }
+pub(crate) fn wide(x: u8) -> u64
+    ensures { (result ≡ x) × (result < 256) }
 {
     x as u64
 }
 
-fn pow2(k: usize) -> u64
+pub(crate) fn pow2(k: usize) -> u64
     requires { k ≤ 32 }
     ensures { result ≡ 2 ^ k }
 {
@@ -27,16 +27,14 @@ pub fn width_of(n: u32) -> usize
 pub(crate) fn room(s: &[u8]) -> usize
     ensures { result ≡ length (window s.now) }
 {
-    let n = s.len();
-    if n < 128 { n * 8 } else { 1024 }
+    s.len().min(128) * 8
 }
 
 // How many bits are left at a place.
 pub(crate) fn left(s: &[u8], at: usize) -> usize
     ensures { result ≡ length (window s.now) - at }
 {
-    let end = room(s);
-    if at < end { end - at } else { 0 }
+    room(s).saturating_sub(at)
 }
 
 // Octet i as a number, and the two, three, four and five octets from it on.

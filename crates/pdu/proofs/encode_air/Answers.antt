@@ -8,7 +8,7 @@ use Rattle.pdu.proofs.Sending.{sends}
 use Rattle.pdu.proofs.encode_air.Goals as goal
 
 pub slice_bounds-deliver-end : goal.slice_bounds-deliver-end
-slice_bounds-deliver-end c = sym (sheet-long air_c c.write_air-p.ensures)
+slice_bounds-deliver-end c = sym (sheet-long air_c c.write-p.ensures)
 
 pub returns : goal.returns
-returns c = sends air_c (up (lit≤ tt) air-most) c.start.ensures c.write_air-p.ensures c.deliver.ensures
+returns c = sends air_c (up (lit≤ tt) air-most) c.start.ensures c.write-p.ensures c.deliver.ensures

@@ -8,7 +8,7 @@ use Rattle.pdu.proofs.Sending.{sends}
 use Rattle.pdu.proofs.encode_ground.Goals as goal
 
 pub slice_bounds-deliver-end : goal.slice_bounds-deliver-end
-slice_bounds-deliver-end c = sym (sheet-long ground_c c.write_ground-p.ensures)
+slice_bounds-deliver-end c = sym (sheet-long ground_c c.write-p.ensures)
 
 pub returns : goal.returns
-returns c = sends ground_c (up (lit≤ tt) ground-most) c.start.ensures c.write_ground-p.ensures c.deliver.ensures
+returns c = sends ground_c (up (lit≤ tt) ground-most) c.start.ensures c.write-p.ensures c.deliver.ensures

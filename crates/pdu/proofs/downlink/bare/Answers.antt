@@ -1,4 +1,4 @@
 use Rattle.pdu.proofs.downlink.bare.Goals as goal
 
 pub returns : goal.returns
-returns c = rw c.no_list-list.ensures
+returns c = rw c.no_list.ensures

@@ -9,27 +9,27 @@ returns-in-CancelEmergency c = rw c.in-CancelEmergency.is (inks-alt _ _ _ _ _ _ 
 
 pub returns-in-Demand : goal.returns-in-Demand
 unfolding air_alt
-returns-in-Demand c = rw c.in-Demand.is (inks-alt _ _ _ _ _ _ refl (inks-ext c.extension.ensures c.write_acked.ensures))
+returns-in-Demand c = rw c.in-Demand.is (inks-alt _ _ _ _ _ _ refl (inks-ext c.extension.ensures c.write.ensures))
 
 pub returns-in-Emergency : goal.returns-in-Emergency
 unfolding air_alt
-returns-in-Emergency c = rw c.in-Emergency.is (inks-alt _ _ _ _ _ _ refl (inks-ext c.extension-in-Emergency.ensures c.write_acked_emergency.ensures))
+returns-in-Emergency c = rw c.in-Emergency.is (inks-alt _ _ _ _ _ _ refl (inks-ext c.extension-in-Emergency.ensures c.write-in-Emergency.ensures))
 
 pub returns-in-Event : goal.returns-in-Event
 unfolding air_alt
-returns-in-Event c = rw c.in-Event.is (inks-alt _ _ _ _ _ _ refl (inks-ext c.extension-in-Event.ensures c.write_event_report.ensures))
+returns-in-Event c = rw c.in-Event.is (inks-alt _ _ _ _ _ _ refl (inks-ext c.extension-in-Event.ensures c.write-in-Event.ensures))
 
 pub returns-in-Negative : goal.returns-in-Negative
 unfolding air_alt
-returns-in-Negative c = rw c.in-Negative.is (inks-alt _ _ _ _ _ _ refl c.write_negative.ensures)
+returns-in-Negative c = rw c.in-Negative.is (inks-alt _ _ _ _ _ _ refl c.write-in-Negative.ensures)
 
 pub returns-in-Noncompliance : goal.returns-in-Noncompliance
 unfolding air_alt
-returns-in-Noncompliance c = rw c.in-Noncompliance.is (inks-alt _ _ _ _ _ _ refl (inks-ext c.extension-in-Noncompliance.ensures c.write_noncompliance.ensures))
+returns-in-Noncompliance c = rw c.in-Noncompliance.is (inks-alt _ _ _ _ _ _ refl (inks-ext c.extension-in-Noncompliance.ensures c.write-in-Noncompliance.ensures))
 
 pub returns-in-Periodic : goal.returns-in-Periodic
 unfolding air_alt
-returns-in-Periodic c = rw c.in-Periodic.is (inks-alt _ _ _ _ _ _ refl (inks-ext c.extension-in-Periodic.ensures c.write_acked-in-Periodic.ensures))
+returns-in-Periodic c = rw c.in-Periodic.is (inks-alt _ _ _ _ _ _ refl (inks-ext c.extension-in-Periodic.ensures c.write-in-Periodic.ensures))
 
 pub returns-in-Positive : goal.returns-in-Positive
 unfolding air_alt

@@ -21,15 +21,15 @@ returns-in-DemandContract c = rw c.in-DemandContract.is (inks-alt _ _ _ _ _ _ re
 
 pub returns-in-EventContract : goal.returns-in-EventContract
 unfolding ground_alt
-returns-in-EventContract c = rw c.in-EventContract.is (inks-alt _ _ _ _ _ _ refl (inks-ext c.extension-in-EventContract.ensures c.write_changes.ensures))
+returns-in-EventContract c = rw c.in-EventContract.is (inks-alt _ _ _ _ _ _ refl (inks-ext c.extension-in-EventContract.ensures c.write.ensures))
 
 pub returns-in-ModifyEmergency : goal.returns-in-ModifyEmergency
 unfolding ground_alt
-returns-in-ModifyEmergency c = rw c.in-ModifyEmergency.is (inks-alt _ _ _ _ _ _ refl c.write_interval.ensures)
+returns-in-ModifyEmergency c = rw c.in-ModifyEmergency.is (inks-alt _ _ _ _ _ _ refl c.write-in-ModifyEmergency.ensures)
 
 pub returns-in-PeriodicContract : goal.returns-in-PeriodicContract
 unfolding ground_alt
-returns-in-PeriodicContract c = rw c.in-PeriodicContract.is (inks-alt _ _ _ _ _ _ refl (inks-ext c.extension-in-PeriodicContract.ensures c.write_periodic.ensures))
+returns-in-PeriodicContract c = rw c.in-PeriodicContract.is (inks-alt _ _ _ _ _ _ refl (inks-ext c.extension-in-PeriodicContract.ensures c.write-in-PeriodicContract.ensures))
 
 pub returns-in-Abort : goal.returns-in-Abort
 unfolding ground_alt

@@ -4,7 +4,7 @@ use Rattle.pdu_parts.proofs.ListLaws.{filled_none, filled_more}
 use Rattle.pdu_parts.proofs.lists.read_items.Goals as goal
 
 pub loop-i-init : goal.loop-i-init
-loop-i-init c = (omega arith, filled_none _ _ _)
+loop-i-init c = filled_none _ _ _
 
 pub read_entry-e-requires : goal.read_entry-e-requires
 read_entry-e-requires c = tt
@@ -15,14 +15,8 @@ overflow_cast-items c = omega (arith, c.read_entry-e.ensures.1)
 pub bounds-items-i : goal.bounds-items-i
 bounds-items-i c = omega arith
 
-pub overflow_add-i : goal.overflow_add-i
-overflow_add-i c = omega arith
-
-pub loop-i-smaller : goal.loop-i-smaller
-loop-i-smaller c = omega arith
-
 pub loop-i-preserved : goal.loop-i-preserved
-loop-i-preserved c = (omega arith, filled_more _ _ (omega arith) c.loop-i.invariant.1 c.read_entry-e.ensures.0)
+loop-i-preserved c = filled_more _ _ (omega arith) c.loop-i.invariant c.read_entry-e.ensures.0
 
 pub returns : goal.returns
-returns c = let e : c.loop-i.i ≡ c.args.n = omega arith in rw (← e) c.loop-i.invariant.1
+returns c = let e : c.loop-i.i ≡ c.args.n = omega arith in rw (← e) c.loop-i.invariant

@@ -4,4 +4,4 @@ use Rattle.pdu_parts.proofs.report.read_fix_fields.Goals as goal
 
 pub returns : goal.returns
 unfolding fix_c
-returns c = like _ _ _ _ (then c.read_position-pos.ensures (then c.read_time-tim.ensures c.read_merit-mer.ensures))
+returns c = like _ _ _ _ (then c.read-position.ensures (then c.read-time.ensures c.read-merit.ensures))

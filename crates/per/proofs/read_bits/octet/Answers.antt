@@ -8,4 +8,4 @@ bounds-s-i c = window-octet _ _ c.requires
 
 pub returns : goal.returns
 returns c = let h = c.shared_slice_known-2-1.given c.args.i in
-    (c.wide.ensures ∙ octet-is _ _ c.requires h.fits, omega arith)
+    (c.wide.ensures.0 ∙ octet-is _ _ c.requires h.fits, omega arith)

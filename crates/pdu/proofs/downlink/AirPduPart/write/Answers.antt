@@ -1,0 +1,7 @@
+use Rattle.per.proofs.Inks.{inks-ext, inks-choice}
+use Rattle.pdu.specs.DownlinkTable.{air_c}
+use Rattle.pdu.proofs.downlink.AirPduPart.write.Goals as goal
+
+pub returns : goal.returns
+unfolding air_c
+returns c = inks-ext c.extension-p.ensures (inks-choice _ _ _ (rw c.index_of.ensures at c.index-p.ensures) c.write_fields.ensures)

@@ -1,7 +1,0 @@
-use Rattle.per.proofs.Compose.{after-ext, in-alt}
-use Rattle.pdu.specs.DownlinkTable.{air_alt}
-use Rattle.pdu.proofs.downlink.read_demand.Goals as goal
-
-pub returns : goal.returns
-unfolding air_alt
-returns c = rw c.bare.ensures (in-alt _ _ _ _ _ _ (after-ext c.extension.ensures c.read_acked-x.ensures))

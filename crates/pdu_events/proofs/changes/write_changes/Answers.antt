@@ -1,9 +1,0 @@
-use mathlib.Core.Path.{refl}
-use Rattle.per.specs.Formats.{field, only}
-use Rattle.per.proofs.Inks.{inks-by, inks-like}
-use Rattle.pdu_events.specs.Changes.{changes_c}
-use Rattle.pdu_events.proofs.changes.write_changes.Goals as goal
-
-pub returns : goal.returns
-unfolding changes_c field only
-returns c = inks-like _ _ _ _ refl (inks-by _ _ c.mask-p.ensures (inks-by _ _ (rw c.present.ensures at c.num_if-p.ensures) (inks-by _ _ (rw c.present-2.ensures at c.write_signed_if-p.ensures) (inks-by _ _ (rw c.present-3.ensures at c.write_range_if-p.ensures) (inks-by _ _ (rw c.present-4.ensures at c.write_either_if-p.ensures) (inks-by _ _ (rw c.present-5.ensures at c.num_if-p-2.ensures) (inks-by _ _ (rw c.present-6.ensures at c.num_if-p-3.ensures) (inks-by _ _ (rw c.present-7.ensures at c.write_either_if-p-2.ensures) (inks-by _ _ (rw c.present-8.ensures at c.num_if-p-4.ensures) (rw c.present-9.ensures at c.num_if.ensures))))))))))

@@ -1,8 +1,0 @@
-use mathlib.Core.Path.{refl}
-use Rattle.per.proofs.Inks.{inks-by, inks-like}
-use Rattle.pdu_parts.specs.AirParts.{acked_c}
-use Rattle.pdu_parts.proofs.acked.write_acked.Goals as goal
-
-pub returns : goal.returns
-unfolding acked_c
-returns c = inks-like _ _ _ _ refl (inks-by _ _ c.flag-p.ensures c.write_report.ensures)

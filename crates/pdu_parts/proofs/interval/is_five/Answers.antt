@@ -1,4 +1,0 @@
-use Rattle.pdu_parts.proofs.interval.is_five.Goals as goal
-
-pub returns-in-Minutes : goal.returns-in-Minutes
-returns-in-Minutes c = rw c.in-Minutes.is

@@ -1,7 +1,0 @@
-use Rattle.per.proofs.Compose.{then, like}
-use Rattle.pdu_parts.specs.Reports.{angle_c}
-use Rattle.pdu_parts.proofs.position.read_angle.Goals as goal
-
-pub returns : goal.returns
-unfolding angle_c
-returns c = like _ _ _ _ (then c.flag-minus.ensures (then c.read_degrees-degrees.ensures (then c.num-minutes.ensures c.num-tenths.ensures)))

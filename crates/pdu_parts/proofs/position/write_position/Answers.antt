@@ -1,8 +1,0 @@
-use mathlib.Core.Path.{refl}
-use Rattle.per.proofs.Inks.{inks-by, inks-like}
-use Rattle.pdu_parts.specs.Reports.{position_c}
-use Rattle.pdu_parts.proofs.position.write_position.Goals as goal
-
-pub returns : goal.returns
-unfolding position_c
-returns c = inks-like _ _ _ _ refl (inks-by _ _ c.write_angle-p.ensures (inks-by _ _ c.write_angle-p-2.ensures c.signed.ensures))

@@ -1,9 +1,0 @@
-use mathlib.Core.Path.{refl}
-use Rattle.per.specs.Formats.{field, only}
-use Rattle.per.proofs.Inks.{inks-by, inks-like}
-use Rattle.pdu_parts.specs.Reports.{emergency_report_c}
-use Rattle.pdu_parts.proofs.report.write_emergency_report.Goals as goal
-
-pub returns : goal.returns
-unfolding emergency_report_c field only
-returns c = inks-like _ _ _ _ refl (inks-by _ _ c.mask-p.ensures (inks-by _ _ c.write_fix-p.ensures (inks-by _ _ (rw c.present.ensures at c.num_if-p.ensures) (rw c.present-2.ensures at c.write_ground_vector_if.ensures))))

@@ -1,8 +1,0 @@
-use mathlib.Core.Path.{refl}
-use Rattle.per.proofs.Inks.{inks-by, inks-like}
-use Rattle.pdu_parts.specs.Reports.{fix_c}
-use Rattle.pdu_parts.proofs.report.write_fix.Goals as goal
-
-pub returns : goal.returns
-unfolding fix_c
-returns c = inks-like _ _ _ _ refl (inks-by _ _ c.write_position-p.ensures (inks-by _ _ c.write_time-p.ensures c.write_merit.ensures))

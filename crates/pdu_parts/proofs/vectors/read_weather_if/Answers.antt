@@ -1,9 +1,0 @@
-use Rattle.per.proofs.Compose.{when-there, when-absent}
-use Rattle.pdu_parts.specs.Vectors.{weather_c}
-use Rattle.pdu_parts.proofs.vectors.read_weather_if.Goals as goal
-
-pub returns-then-present : goal.returns-then-present
-returns-then-present c = when-there _ _ c.if-present.true c.read_weather.ensures
-
-pub returns : goal.returns
-returns c = when-absent weather_c _ c.if-present.false
