@@ -80,17 +80,17 @@ KINDS = {
 
 # The array that a function ends with: its size, where it is a size of the header, and the place of each entry that has a name.
 ARRAYS = [
-    ("host_numbers/src/uplink.rt", "flat_periodic", "ADSC_GROUND_NUMBERS", {
-        "ADSC_G_KIND": "6", "ADSC_G_WHAT": "a.elements", "ADSC_G_SCALE": "scale", "ADSC_G_INTERVAL": "times", "ADSC_G_ADDRESS": "a.address",
+    ("host_numbers/src/uplink.rt", "flat_periodic", None, {
+        "ADSC_G_KIND": "6", "ADSC_G_WHAT": "a.elements", "ADSC_G_SCALE": "scale_of(a.interval)", "ADSC_G_INTERVAL": "times_of(a.interval)", "ADSC_G_ADDRESS": "a.address",
         "ADSC_G_PROFILE": "a.profile", "ADSC_G_GROUND_VECTOR": "a.over_ground", "ADSC_G_AIR_VECTOR": "a.air", "ADSC_G_WEATHER": "a.weather"}),
     ("host_numbers/src/changes.rt", "flat_changes", "ADSC_GROUND_NUMBERS", {
-        "ADSC_G_WHAT": "a.elements", "ADSC_G_LATERAL": "a.lateral", "ADSC_G_RATE": "climb", "ADSC_G_CEILING": "top", "ADSC_G_FLOOR": "low",
-        "ADSC_G_AIR_SPEED": "air.kind", "ADSC_G_AIR_SPEED_CHANGE": "air.number", "ADSC_G_GROUND_SPEED": "a.over_ground", "ADSC_G_HEADING": "a.heading",
-        "ADSC_G_EXTENDED_PROFILE": "profile.kind", "ADSC_G_EXTENDED_PROFILE_COUNT": "profile.number", "ADSC_G_TRACK": "a.track", "ADSC_G_LEVEL": "a.level"}),
+        "ADSC_G_WHAT": "a.elements", "ADSC_G_LATERAL": "a.lateral", "ADSC_G_RATE": "complement(a.rate)", "ADSC_G_CEILING": "complement(a.range.ceiling)", "ADSC_G_FLOOR": "complement(a.range.floor)",
+        "ADSC_G_AIR_SPEED": "a.air.kind", "ADSC_G_AIR_SPEED_CHANGE": "a.air.number", "ADSC_G_GROUND_SPEED": "a.over_ground", "ADSC_G_HEADING": "a.heading",
+        "ADSC_G_EXTENDED_PROFILE": "a.profile.kind", "ADSC_G_EXTENDED_PROFILE_COUNT": "a.profile.number", "ADSC_G_TRACK": "a.track", "ADSC_G_LEVEL": "a.level"}),
     ("host_numbers/src/reports.rt", "fix_numbers", None, {
         "ADSC_A_KIND": "kind", "ADSC_A_WHAT": "bit(ack)", "ADSC_A_DETAIL": "event", "ADSC_A_ELEMENTS": "elements", "ADSC_A_SOUTH": "bit(la.minus)",
         "ADSC_A_LATITUDE": "la.degrees", "ADSC_A_LATITUDE_MINUTES": "la.minutes", "ADSC_A_LATITUDE_TENTHS": "la.tenths", "ADSC_A_WEST": "bit(lo.minus)",
-        "ADSC_A_LONGITUDE": "lo.degrees", "ADSC_A_LONGITUDE_MINUTES": "lo.minutes", "ADSC_A_LONGITUDE_TENTHS": "lo.tenths", "ADSC_A_LEVEL": "complement(level)",
+        "ADSC_A_LONGITUDE": "lo.degrees", "ADSC_A_LONGITUDE_MINUTES": "lo.minutes", "ADSC_A_LONGITUDE_TENTHS": "lo.tenths", "ADSC_A_LEVEL": "complement(x.position.level)",
         "ADSC_A_YEAR": "t.year", "ADSC_A_MONTH": "t.month", "ADSC_A_DAY": "t.day", "ADSC_A_HAS_SECONDS": "bit(t.has_seconds)", "ADSC_A_HOURS": "t.hours",
         "ADSC_A_MINUTES": "t.minutes", "ADSC_A_SECONDS": "t.seconds", "ADSC_A_ACCURACY": "m.accuracy", "ADSC_A_UNITS": "bit(m.units)",
         "ADSC_A_AVOIDANCE": "bit(m.avoidance)", "ADSC_A_ADDRESS": "address"}),
@@ -99,12 +99,13 @@ ARRAYS = [
 # Numbers that stand in the text of a function or a type.
 TEXTS = {
     "host_record/src/record.rt": {
-        "ADSC_LINK_SETTINGS": r"put_words\(out, (\d+), setting\)", "ADSC_LINK_LEFT": r"put_words\(out, (\d+), left\)",
-        "ADSC_LINK_DC": r"out\[(\d+)\] = at\[0\]", "ADSC_LINK_EC": r"out\[(\d+)\] = at\[1\]", "ADSC_LINK_PC": r"out\[(\d+)\] = at\[2\]",
-        "ADSC_LINK_EM": r"out\[(\d+)\] = at\[3\]", "ADSC_LINK_LI": r"out\[(\d+)\] = at\[4\]",
+        "ADSC_LINK_SETTINGS": r"put_words\(out, (\d+), l\.setting\)", "ADSC_LINK_LEFT": r"put_words\(out, (\d+), l\.left\)",
+        "ADSC_LINK_DC": r"out\[(\d+)\.\.\d+\]\.copy_from_slice\(&at\)", **{f"ADSC_LINK_{module}": r"let at = \[" + r"s\[\d+\], " * n + r"s\[(\d+)\]"
+        for n, module in ((1, "EC"), (2, "PC"), (3, "EM"), (4, "LI"))},
         "ADSC_LINK_ASKED": r"\basked: word_in\(s, (\d+)\)", "ADSC_LINK_FORCE": r"\bforce: word_in\(s, (\d+)\)"},
     "host_record/src/answer.rt": {
-        "ADSC_ANSWER_REASON": r"f\[(\d+)\] = q\[0\];", "ADSC_ANSWER_ACTIONS": r"f\[(\d+)\] = n;", "ADSC_ANSWER_SENT": r"f\[(\d+)\] = m;"},
+        "ADSC_ANSWER_REASON": r"f\[(\d*)\.\.\d+\]\.copy_from_slice\(&octets_of\(s\.reason\)\)", "ADSC_ANSWER_ACTIONS": r"f\[(\d+)\] = count\(s\.acts\.n",
+        "ADSC_ANSWER_SENT": r"f\[(\d+)\] = count\(s\.sent\.n"},
     "link/src/watch.rt": {"ADSC_SECONDS_MOST": r"x <= (\d+)"},
     "host_numbers/src/copy.rt": {"ADSC_LIST_OCTETS": r"fn items_of\(.*\) -> \[u8; (\d+)\]"},
 }
@@ -154,11 +155,11 @@ def numbers_due():
         due += [(name, values[variant], f"{path}, {enum}::{variant}") for name, variant in names.items()]
     for path, function, size, names in ARRAYS:
         body = crate(path).split(f"fn {function}(", 1)[1].split("\n}\n", 1)[0]
-        entries = ["".join(entry.split()) for entry in body.rsplit("    [", 1)[1].rsplit("]", 1)[0].split(",") if entry.strip()]
+        entries = ["".join(entry.split()) for entry in body.rsplit("[\n", 1)[1].rsplit("]", 1)[0].split(",") if entry.strip()]
         due += [(name, entries.index(entry), f"{path}, {function}") for name, entry in names.items()]
         due += [(size, len(entries), f"{path}, {function}")] if size else []
     for path, names in TEXTS.items():
-        due += [(name, int(re.search(text, crate(path))[1]), path) for name, text in names.items()]
+        due += [(name, int(re.search(text, crate(path))[1] or 0), path) for name, text in names.items()]
     return due
 
 
