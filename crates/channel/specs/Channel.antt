@@ -3,7 +3,7 @@ use Rattle.std.specs.Prelude.{Bool, true, false, List, [], ◌∷◌, ◌++◌, 
 use Rattle.std.proofs.lemmas.List.Edits.{sets}
 use Rattle.text.specs.Text.{pick}
 use Rattle.channel.specs.declared.Kind.{Kind}
-use Rattle.channel.specs.declared.Kind.TheVariants.{Start, Data, End, Abort, UserAbort}
+use Rattle.channel.specs.declared.Kind.TheVariants.{Nothing, Start, Data, End, Abort, UserAbort}
 use Rattle.channel.specs.declared.Letter.{Letter}
 use Rattle.channel.specs.declared.Channel.{Channel}
 
@@ -21,6 +21,7 @@ letter_of up number kind s =
 
 -- the letters that begin a dialogue, and those that end it
 abbrev pub starts : Kind → Bool
+starts Nothing = false
 starts Start = true
 starts Data = false
 starts End = false
@@ -28,6 +29,7 @@ starts Abort = false
 starts UserAbort = false
 
 abbrev pub ends : Kind → Bool
+ends Nothing = false
 ends Start = false
 ends Data = false
 ends End = true
@@ -39,7 +41,7 @@ abbrev pub octets_in : Letter → List ℕ
 octets_in l = take l.n l.octets
 
 unfoldable pub blank : Letter
-blank = record { up = false; number = 0; kind = Data; n = 0; octets = no_octets }
+blank = record { up = false; number = 0; kind = Nothing; n = 0; octets = no_octets }
 
 -- the letters under way
 unfoldable pub held_in : Channel → List Letter

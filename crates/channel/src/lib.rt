@@ -13,9 +13,10 @@ pub const ROOM: usize = 115;
 // One more than may be under way, so that it shows where there would be too many.
 pub const SLOTS: usize = 17;
 
-// What a letter is for its dialogue. The user's abort has no PDU.
+// What a letter is for its dialogue. The user's abort has no PDU; `Nothing` is where no letter is.
 #[derive(Clone, Copy, Debug, PartialEq, Eq)]
 pub enum Kind {
+    Nothing,
     Start,
     Data,
     End,
@@ -62,7 +63,7 @@ fn blank_letter() -> Letter
     Letter {
         up: false,
         number: 0,
-        kind: Kind::Data,
+        kind: Kind::Nothing,
         n: 0,
         octets: [0; ROOM],
     }

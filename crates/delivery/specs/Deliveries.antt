@@ -8,7 +8,7 @@ use Rattle.text.specs.Page.{Page, Writes}
 use Rattle.script.specs.Entries.{spaced}
 use Rattle.script.specs.Replies.{Reply}
 use Rattle.channel.specs.declared.Kind.{Kind}
-use Rattle.channel.specs.declared.Kind.TheVariants.{Start, Data, End, Abort, UserAbort}
+use Rattle.channel.specs.declared.Kind.TheVariants.{Nothing, Start, Data, End, Abort, UserAbort}
 use Rattle.channel.specs.declared.Letter.{Letter}
 use Rattle.channel.specs.Channel.{oldest_of}
 use Rattle.world.specs.World.{World}
@@ -21,6 +21,7 @@ heard_words =
     ∷ ascii " ground data" ∷ ascii " ground end-cnf" ∷ ascii " ground air-abort" ∷ ascii " ground peer-abort" ∷ []
 
 abbrev pub word_of : Kind → ℕ
+word_of Nothing = 0
 word_of Start = 1
 word_of Data = 2
 word_of End = 3

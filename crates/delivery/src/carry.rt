@@ -25,6 +25,7 @@ fn word_for(l: Letter) -> usize
     ensures { result ≡ word_for l }
 {
     let k = match l.kind {
+        Kind::Nothing => 0,
         Kind::Start => 1,
         Kind::Data => 2,
         Kind::End => 3,

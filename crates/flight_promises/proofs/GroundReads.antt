@@ -32,6 +32,7 @@ events-alike : (kind : Kind) (v w : Changes) → up_may kind (EventContract v) �
 unfolding uplink_event reason_in
 events-alike kinds.Start v w = refl
 events-alike kinds.Data v w = refl
+events-alike kinds.Nothing v w = refl
 events-alike kinds.End v w = refl
 events-alike kinds.Abort v w = refl
 events-alike kinds.UserAbort v w = refl
@@ -40,6 +41,7 @@ periods-alike : (kind : Kind) (v w : Periodic) → up_may kind (PeriodicContract
 unfolding uplink_event reason_in
 periods-alike kinds.Start v w = refl
 periods-alike kinds.Data v w = refl
+periods-alike kinds.Nothing v w = refl
 periods-alike kinds.End v w = refl
 periods-alike kinds.Abort v w = refl
 periods-alike kinds.UserAbort v w = refl

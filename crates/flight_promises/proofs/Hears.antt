@@ -42,6 +42,7 @@ pub ground-hears : (k : Kind) (s : List ℕ) → down_fits k s ≡ true → grou
 unfolding to_ground.call_for ground.heard_well down_fits
 ground-hears kinds.Start s f = f
 ground-hears kinds.Data s f = f
+ground-hears kinds.Nothing s f = f
 ground-hears kinds.End s f = refl
 ground-hears kinds.Abort s f = ground-abort (read_pdu air_c s) f
 ground-hears kinds.UserAbort s f = refl
@@ -56,6 +57,7 @@ pub air-hears : (k : Kind) (s : List ℕ) → up_fits k s ≡ true → air.heard
 unfolding to_air.call_for air.heard_well up_fits
 air-hears kinds.Start s f = f
 air-hears kinds.Data s f = f
+air-hears kinds.Nothing s f = f
 air-hears kinds.End s f = f
 air-hears kinds.Abort s f = air-abort (read_pdu ground_c s) f
 air-hears kinds.UserAbort s f = refl

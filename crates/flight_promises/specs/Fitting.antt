@@ -12,7 +12,7 @@ use Rattle.air_tables.specs.Names.{LI-START, LI-ACTIVE}
 use Rattle.air_answer.specs.Events.{uplink_event, may_come, reason_in}
 use Rattle.ground_answer.specs.Events as ground
 use Rattle.channel.specs.declared.Kind.{Kind}
-use Rattle.channel.specs.declared.Kind.TheVariants.{Start, Data, End, Abort, UserAbort}
+use Rattle.channel.specs.declared.Kind.TheVariants.{Nothing, Start, Data, End, Abort, UserAbort}
 use Rattle.channel.specs.declared.Letter.{Letter}
 use Rattle.channel.specs.Channel.{octets_in}
 
@@ -23,6 +23,7 @@ up_may Start g = may_come LI-START (uplink_event g)
 up_may End g = eqb (ground_tag g) 0
 up_may Abort g = not (eqb (reason_in g) INVALID-PDU)
 up_may Data g = may_come LI-ACTIVE (uplink_event g)
+up_may Nothing g = may_come LI-ACTIVE (uplink_event g)
 up_may UserAbort g = may_come LI-ACTIVE (uplink_event g)
 
 unfoldable pub up_reads : Kind → per.Answer Ground → Bool
@@ -35,6 +36,7 @@ up_fits UserAbort s = true
 up_fits End s = pick (eqb (length s) 0) true (up_reads End (read_pdu ground_c s))
 up_fits Start s = up_reads Start (read_pdu ground_c s)
 up_fits Data s = up_reads Data (read_pdu ground_c s)
+up_fits Nothing s = up_reads Data (read_pdu ground_c s)
 up_fits Abort s = up_reads Abort (read_pdu ground_c s)
 
 -- the same of a PDU from the aircraft: the ground takes all that reads well (01, LI's table), and of an end response no octets
@@ -42,6 +44,7 @@ abbrev pub down_may : Kind → AirPdu → Bool
 down_may Abort a = not (eqb (ground.reason_in a.kind) INVALID-PDU)
 down_may Start a = true
 down_may Data a = true
+down_may Nothing a = true
 down_may End a = true
 down_may UserAbort a = true
 
@@ -54,6 +57,7 @@ down_fits UserAbort s = true
 down_fits End s = true
 down_fits Start s = down_reads Start (read_pdu air_c s)
 down_fits Data s = down_reads Data (read_pdu air_c s)
+down_fits Nothing s = down_reads Data (read_pdu air_c s)
 down_fits Abort s = down_reads Abort (read_pdu air_c s)
 
 -- octets under way, up or down, of a kind

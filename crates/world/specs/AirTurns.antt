@@ -5,7 +5,7 @@ use Rattle.text.specs.Text.{pick, both}
 use Rattle.link.specs.Names.{LI, IDLE}
 use Rattle.pdu_parts.specs.declared.lists.Listed.{Listed}
 use Rattle.channel.specs.declared.Kind.{Kind}
-use Rattle.channel.specs.declared.Kind.TheVariants.{Start, End, Abort, UserAbort}
+use Rattle.channel.specs.declared.Kind.TheVariants.{Nothing, Start, End, Abort, UserAbort}
 use Rattle.channel.specs.declared.Kind.TheVariants as kinds
 use Rattle.channel.specs.declared.Letter.{Letter}
 use Rattle.channel.specs.Channel.{starts}
@@ -59,6 +59,7 @@ hears w l = pick (starts l.kind) true (both (not (eqb (get_or w.air.link.at LI 0
 
 -- "each to the other end as the primitive it is"
 unfoldable pub call_for : Kind → Call
+call_for Nothing = Data
 call_for Start = StartInd
 call_for kinds.Data = Data
 call_for End = EndInd

@@ -4,7 +4,7 @@ use Rattle.refusals.specs.Refusals.{SCRIPT-LINE}
 use Rattle.text.specs.Text.{pick, both}
 use Rattle.link.specs.Names.{LI, IDLE}
 use Rattle.channel.specs.declared.Kind.{Kind}
-use Rattle.channel.specs.declared.Kind.TheVariants.{Start, End, Abort, UserAbort}
+use Rattle.channel.specs.declared.Kind.TheVariants.{Nothing, Start, End, Abort, UserAbort}
 use Rattle.channel.specs.declared.Kind.TheVariants as kinds
 use Rattle.channel.specs.declared.Letter.{Letter}
 use Rattle.ground.specs.Runs.{answered}
@@ -49,6 +49,7 @@ hears w l = both (not (eqb (get_or w.ground_end.link.at LI 0) IDLE)) (eqb l.numb
 
 -- "each to the other end as the primitive it is"
 unfoldable pub call_for : Kind → Call
+call_for Nothing = Data
 call_for Start = StartConfirm
 call_for kinds.Data = Data
 call_for End = EndConfirm

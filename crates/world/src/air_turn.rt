@@ -82,6 +82,6 @@ pub fn call_for(kind: Kind) -> Call
         Kind::End => Call::EndInd,
         Kind::Abort => Call::GroundAbort,
         Kind::UserAbort => Call::PeerAbort,
-        Kind::Data => Call::Data,
+        Kind::Data | Kind::Nothing => Call::Data,
     }
 }

@@ -73,6 +73,6 @@ pub fn call_for(kind: Kind) -> Call
         Kind::End => Call::EndConfirm,
         Kind::Abort => Call::AirAbort,
         Kind::UserAbort => Call::PeerAbort,
-        Kind::Data => Call::Data,
+        Kind::Data | Kind::Nothing => Call::Data,
     }
 }
