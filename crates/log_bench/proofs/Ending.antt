@@ -1,7 +1,7 @@
 -- The blocks of a log in turn, as laws. Assumes nothing.
 use Prim.Native.Nat.{ℕ, zero, suc, ◌+◌}
 use mathlib.Core.Path.{◌≡◌, refl, sym, ap, ◌∙◌}
-use mathlib.Core.Bool.{Bool, true, false, false≢true}
+use mathlib.Core.Bool.{Bool, false}
 use mathlib.Core.List.{List, [], ◌∷◌}
 use Rattle.ground_answer.specs.declared.answer.Answer.{Answer}
 use Rattle.bench.specs.declared.reply.Setup.{Setup}
@@ -17,12 +17,6 @@ use Rattle.log_play.specs.declared.block.Played.{Played}
 use Rattle.log_play.proofs.Walks.{refused-number}
 use Rattle.log_bench.specs.Shown.{count_on, Shows}
 use Rattle.log_bench.specs.Logs.{Outcome, outcome, ended, of_play, of_block, outcome_of, Ends}
-
-pub ends-lost : {k n : ℕ} {b : Setup} {o : Outcome} {failed : Bool} → failed ≡ true → Ends k n b o failed
-ends-lost e = record { blocks = []; is = λ well. absurd (false≢true (sym well ∙ e)) }
-
-pub ends-here : {k n : ℕ} {b : Setup} {o : Outcome} {failed : Bool} → o ≡ ended k n b → Ends k n b o failed
-ends-here e = record { blocks = []; is = λ well. e }
 
 module _ (k n : ℕ) (b : Setup) (x : List ℕ) (p : Played) (is : p ≡ played_in b (play_block b k x)) where
   -- a block that is refused ends the log, and leaves what was there

@@ -36,7 +36,7 @@ fn pull_block(stdin: Stdin, block: &mut [u8]) -> io::Result<usize>
     Ok(len)
 }
 
-// How a log ended: its trace up to there, the refusal or 0 and the number of the block that it is of, and whether a read failed before the end.
+// How a log ended: its trace up to there, the refusal or 0 and the number of the block that it is of, and whether a read failed before the end: the trace is written in both cases.
 #[derive(Drop)]
 pub struct LogEnd {
     pub trace: Trace,

@@ -25,7 +25,7 @@ const OLD_SETTINGS: usize = 36;
 // The setting of LI1 where the record has none.
 const OLD_LI1: u32 = 86400;
 
-// Whether a record `went`, the box after it, what was said, and how many octets of its data came with the call.
+// Whether a record `went`, the box after it, what was said, and how many octets of its data came with the call. All stand there in both cases: no Option.
 #[derive(Drop)]
 pub struct Stepped {
     pub went: bool,

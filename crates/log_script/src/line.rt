@@ -55,7 +55,7 @@ fn nothing(b: Setup) -> Entry
     }
 }
 
-// The place of a call's script word, from 0.
+// The place of a call's script word, from 0: the octet that the log's form has for it.
 fn kind_of(call: Call) -> u8
     ensures { (s : List ℕ) → result ≡ (record_of call s).kind }
 {
