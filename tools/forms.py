@@ -43,12 +43,12 @@ def functions(text):
 
 
 def structs(text):
-    for m in re.finditer(r"(?ms)^(?:pub )?struct (\w+)[^;{]*\{(.*?)^\}", text):
-        yield m[1], re.findall(r"(?m)^\s*(?:pub )?(\w+): (.*),$", m[2])
+    for m in re.finditer(r"(?ms)^(?:pub(?:\(crate\))? )?struct (\w+)[^;{]*\{(.*?)^\}", text):
+        yield m[1], re.findall(r"(?m)^\s*(?:pub(?:\(crate\))? )?(\w+): (.*),$", m[2])
 
 
 def enums(text):
-    for m in re.finditer(r"(?ms)^(?:pub )?enum (\w+) \{(.*?)^\}", text):
+    for m in re.finditer(r"(?ms)^(?:pub(?:\(crate\))? )?enum (\w+) \{(.*?)^\}", text):
         yield m[1], re.findall(r"(?m)^    (\w+)", m[2])
 
 
@@ -78,7 +78,7 @@ def count():
                 found["6 arrays with a length beside"].append(f"{where} {name}")
             if sum(k.startswith("[") for _, k in fields) > 1:
                 found["6 parallel arrays"].append(f"{where} {name}")
-        for m in re.finditer(r"(?m)^(?:pub )?const (\w+): u8\b", text):
+        for m in re.finditer(r"(?m)^(?:pub(?:\(crate\))? )?const (\w+): u8\b", text):
             found["1 constants of a kind's or a refusal's number"].append(f"{where} {m[1]}")
         for m in re.finditer(r"(?m)^\s*(?:while|loop)\b.*", text):
             found["3 loops that count or test by hand"].append(f"{where} {m[0].strip()}")
