@@ -57,6 +57,9 @@ CONSTANTS = {
         "ADSC_DC_PENDING": "DC_PENDING", "ADSC_DC_ACTIVE": "DC_ACTIVE", "ADSC_EM_ACTIVE": "EM_ACTIVE", "ADSC_EM_MODIFY": "MODIFY"},
 }
 
+# The enum whose cases are the refusals, each with its number: what a PDU is refused with. The constants above are what a call is.
+REFUSALS = "refusals/src/lib.rt", "Refusal"
+
 # A kind of call, which counts from 0, and the script word that it is, whose places count from 1.
 WORDS = {"bench_line/src/line.rt": {
     "ADSC_CALL_REQUEST": "REQ", "ADSC_CALL_USER_ABORT": "USER_ABORT", "ADSC_CALL_ELAPSE": "ELAPSE", "ADSC_CALL_START_CONFIRM": "START_CNF",
@@ -147,6 +150,9 @@ def numbers_due():
     for path, names in CONSTANTS.items():
         values = dict(re.findall(r"pub(?:\(crate\))? const (\w+): \w+ = (\d+);", crate(path)))
         due += [(name, int(values[const]), f"{path}, {const}") for name, const in names.items()]
+    path, enum = REFUSALS
+    cases = re.findall(r"^    (\w+) = (\d+),$", crate(path).split(f"pub enum {enum} {{", 1)[1].split("\n}\n", 1)[0], flags=re.M)
+    due += [("ADSC" + re.sub("(?=[A-Z])", "_", case).upper(), int(n), f"{path}, {enum}::{case}") for case, n in cases]
     for path, names in WORDS.items():
         values = dict(re.findall(r"const (\w+): usize = (\d+);", crate(path)))
         due += [(name, int(values[const]) - 1, f"{path}, {const}") for name, const in names.items()]
