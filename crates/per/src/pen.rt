@@ -48,6 +48,7 @@ fn raise(z: Signed, below: u16, top: u16) -> u32
     sum as u32
 }
 
+// A field's method is compiled into its caller, where the range and mostly the width are known: as a call it costs a report half as much again to write.
 impl Pen {
     // The start of a PDU.
     pub fn start() -> Self
@@ -73,6 +74,7 @@ impl Pen {
     }
 
     // The w lowest bits of v, by a pen that holds no refusal.
+    #[inline(always)]
     fn ink(self, out: &mut [u8; 128], w: usize, v: u32) -> Pen
         requires { w ≤ 32 }
         ensures { Inked out.old (seen_pen self) w v (seen_pen result) out.new }
@@ -85,6 +87,7 @@ impl Pen {
     }
 
     // The number v in w bits, w up to 32.
+    #[inline(always)]
     pub fn put(self, out: &mut [u8; 128], w: usize, v: u32) -> Pen
         ensures { Writes (run w) out.old self v result out.new }
     {
@@ -101,6 +104,7 @@ impl Pen {
     }
 
     // The whole number v of lo..hi.
+    #[inline(always)]
     pub fn num(self, out: &mut [u8; 128], v: u32, lo: u32, hi: u32) -> Pen
         ensures { Writes (num lo hi) out.old self v result out.new }
     {
@@ -117,6 +121,7 @@ impl Pen {
     }
 
     // The whole number v of lo..hi, only if it is present.
+    #[inline(always)]
     pub fn num_if(self, out: &mut [u8; 128], present: bool, v: u32, lo: u32, hi: u32) -> Pen
         ensures { Writes (when present 0 (num lo hi)) out.old self v result out.new }
     {
@@ -127,6 +132,7 @@ impl Pen {
     }
 
     // The index of a choice, 0..top.
+    #[inline(always)]
     pub fn index(self, out: &mut [u8; 128], i: u32, top: u32) -> Pen
         ensures { Writes (index top) out.old self i result out.new }
     {
@@ -134,6 +140,7 @@ impl Pen {
     }
 
     // A truth value as one bit.
+    #[inline(always)]
     pub fn flag(self, out: &mut [u8; 128], b: bool) -> Pen
         ensures { Writes flag out.old self b result out.new }
     {
@@ -144,6 +151,7 @@ impl Pen {
     }
 
     // An extension bit.
+    #[inline(always)]
     pub fn extension(self, out: &mut [u8; 128]) -> Pen
         ensures { Writes extension out.old self (record {}) result out.new }
     {
@@ -154,6 +162,7 @@ impl Pen {
     }
 
     // The count of a list, at most 16.
+    #[inline(always)]
     pub fn count(self, out: &mut [u8; 128], n: u32) -> Pen
         ensures { Writes count out.old self n result out.new }
     {
@@ -170,6 +179,7 @@ impl Pen {
     }
 
     // Presence bits as one number of 0..all.
+    #[inline(always)]
     pub fn mask(self, out: &mut [u8; 128], v: u32, all: u32, carried: u32, need: bool) -> Pen
         ensures { Writes (mask all carried need) out.old self v result out.new }
     {
@@ -193,6 +203,7 @@ impl Pen {
     }
 
     // A number of -below..top, sent plus `below`.
+    #[inline(always)]
     pub fn signed(self, out: &mut [u8; 128], v: Signed, below: u16, top: u16) -> Pen
         ensures { Writes (signed below top) out.old self v result out.new }
     {
