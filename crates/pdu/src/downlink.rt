@@ -5,6 +5,7 @@ ghost use Rattle.per.specs.Writing.{Writes};
 ghost use Rattle.pdu_parts.specs.Lists.{no_list};
 ghost use Rattle.pdu.specs.DownlinkTable.{kind_tag, air_alt, air_c};
 
+use crate::map;
 use pdu_parts::acked::{AckedEmergency, AckedReport, EventReport};
 use pdu_parts::acks::{NegativeAck, Noncompliance};
 use pdu_parts::lists::{Listed, no_list};
@@ -90,20 +91,38 @@ impl Part for AirPdu {
                 value: bare(Air::CancelEmergency),
                 next: n,
             },
-            1 => AckedReport::read(n.extension(s), s).map(|a| bare(Air::Demand(a))),
-            2 => AckedEmergency::read(n.extension(s), s).map(|a| bare(Air::Emergency(a))),
-            3 => EventReport::read(n.extension(s), s).map(|a| bare(Air::Event(a))),
-            4 => NegativeAck::read(n, s).map(|(ack, list)| AirPdu {
-                kind: Air::Negative(ack),
-                list,
-            }),
-            5 => Noncompliance::read(n.extension(s), s).map(|(kind, list)| AirPdu {
-                kind: Air::Noncompliance(kind),
-                list,
-            }),
-            6 => AckedReport::read(n.extension(s), s).map(|a| bare(Air::Periodic(a))),
-            7 => n.extension(s).num(s, 0, 7).map(|r| bare(Air::Positive(r))),
-            _ => n.extension(s).num(s, 0, 7).map(|r| bare(Air::Abort(r))),
+            1 => map(
+                AckedReport::read(n.extension(s), s),
+                |a| bare(Air::Demand(a)),
+            ),
+            2 => map(
+                AckedEmergency::read(n.extension(s), s),
+                |a| bare(Air::Emergency(a)),
+            ),
+            3 => map(
+                EventReport::read(n.extension(s), s),
+                |a| bare(Air::Event(a)),
+            ),
+            4 => map(
+                NegativeAck::read(n, s),
+                |(ack, list)| AirPdu {
+                    kind: Air::Negative(ack),
+                    list,
+                },
+            ),
+            5 => map(
+                Noncompliance::read(n.extension(s), s),
+                |(kind, list)| AirPdu {
+                    kind: Air::Noncompliance(kind),
+                    list,
+                },
+            ),
+            6 => map(
+                AckedReport::read(n.extension(s), s),
+                |a| bare(Air::Periodic(a)),
+            ),
+            7 => map(n.extension(s).num(s, 0, 7), |r| bare(Air::Positive(r))),
+            _ => map(n.extension(s).num(s, 0, 7), |r| bare(Air::Abort(r))),
         }
     }
 

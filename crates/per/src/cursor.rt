@@ -27,21 +27,6 @@ pub struct Read<T> {
     pub next: Cursor,
 }
 
-impl<T> Read<T> {
-    // The same reading, with another value made of what was read.
-    pub fn map<U, F: FnOnce(T) -> U>(self, f: F) -> Read<U>
-        requires { F.pre f self.value }
-        ensures value { F.post f self.value result.value }
-        ensures next { result.next ≡ self.next }
-    {
-        let next = self.next;
-        Read {
-            value: f(self.value),
-            next,
-        }
-    }
-}
-
 // A number with a sign.
 #[derive(Drop)]
 #[derive(Clone, Copy)]
