@@ -1,6 +1,6 @@
 -- An aircraft PDU has room in 115 octets, so writing it there gives its octets or the refusal of its fields. Assumes nothing.
 use Prim.Native.Nat.{ℕ, ◌≤◌}
-use mathlib.Core.Path.{◌≡◌}
+use mathlib.Core.Path.{◌≡◌, sym, ap}
 use mathlib.Core.List.{List, []}
 use native.Mathlib.Omega.{arith}
 use lib.ListN.{length, replicate}
@@ -9,12 +9,14 @@ use Rattle.per.proofs.RoundTrip.{length-encode}
 use Rattle.std.specs.Prelude.{Result, Ok, Err}
 use Rattle.refusals.specs.declared.Refusal.{Refusal}
 use Rattle.refusals.specs.Refusals.{number}
+use Rattle.refusals.proofs.Numbers.{number-alone, number-some}
 use Rattle.pdu.specs.declared.downlink.AirPdu.{AirPdu}
 use Rattle.pdu.specs.DownlinkTable.{air_c}
 use Rattle.pdu.proofs.DownlinkBounds.{air-most}
 use Rattle.pdu.specs.Answers.{Sends}
 use Rattle.pdu.proofs.Rooms.{room-goes, room-stays}
-use Rattle.air_answer.specs.Sent.{sent, letter_of, outgoing}
+use Rattle.air_answer.specs.Sent.{sent, letter_of, outgoing, letter, Outgoing}
+use Rattle.air_answer.specs.declared.sent.Sent.{Sent}
 
 has_room : (a : AirPdu) → length (encode air_c a) ≤ 115
 has_room a = omega (arith, length-encode air_c a, air-most.bits a)
@@ -32,3 +34,10 @@ unfolding outgoing letter_of
 letter-stays a n e s =
     let r = room-stays air_c 115 a (has_room a) n e s in
     rw r.fields (λ i. record { refusal = r.is i; sent = sent [] })
+
+-- nothing is lost where an answer is looked at as a letter
+pub letter-alone : (x y : Result Sent Refusal) → letter x ≡ letter y → x ≡ y
+letter-alone (Ok s) (Ok t) e = ap Ok (ap (λ (o : Outgoing). o.sent) e)
+letter-alone (Ok s) (Err r) e = absurd (number-some r (sym (ap (λ (o : Outgoing). o.refusal) e)))
+letter-alone (Err q) (Ok t) e = absurd (number-some q (ap (λ (o : Outgoing). o.refusal) e))
+letter-alone (Err q) (Err r) e = ap Err (number-alone q r (ap (λ (o : Outgoing). o.refusal) e))

@@ -1,16 +1,18 @@
 -- A ground PDU has room in the octets of an answer, so writing it there gives its octets or the refusal of its fields. Assumes nothing.
-use Rattle.std.proofs.Common.{◌≡◌, ℕ, ◌≤◌, List, [], length, replicate, arith}
+use Rattle.std.proofs.Common.{◌≡◌, sym, ap, ℕ, ◌≤◌, List, [], length, replicate, arith}
 use Rattle.per.specs.Pdu.{encode}
 use Rattle.per.proofs.RoundTrip.{length-encode}
 use Rattle.std.specs.Prelude.{Result, Ok, Err}
 use Rattle.refusals.specs.declared.Refusal.{Refusal}
 use Rattle.refusals.specs.Refusals.{number}
+use Rattle.refusals.proofs.Numbers.{number-alone, number-some}
 use Rattle.pdu.specs.declared.uplink.Ground.{Ground}
 use Rattle.pdu.specs.UplinkTable.{ground_c}
 use Rattle.pdu.proofs.UplinkBounds.{ground-most}
 use Rattle.pdu.specs.Answers.{Sends}
 use Rattle.pdu.proofs.Rooms.{room-goes, room-stays}
-use Rattle.ground_answer.specs.Sent.{SENT-MOST, sent, letter_of, outgoing}
+use Rattle.ground_answer.specs.Sent.{SENT-MOST, sent, letter_of, outgoing, letter, Outgoing}
+use Rattle.ground_answer.specs.declared.sent.Sent.{Sent}
 
 has_room : (g : Ground) → length (encode ground_c g) ≤ SENT-MOST
 has_room g = omega (arith, length-encode ground_c g, ground-most.bits g)
@@ -28,3 +30,10 @@ unfolding outgoing letter_of
 letter-stays g n e s =
     let r = room-stays ground_c SENT-MOST g (has_room g) n e s in
     rw r.fields (λ i. record { refusal = r.is i; sent = sent [] })
+
+-- nothing is lost where an answer is looked at as a letter
+pub letter-alone : (x y : Result Sent Refusal) → letter x ≡ letter y → x ≡ y
+letter-alone (Ok s) (Ok t) e = ap Ok (ap (λ (o : Outgoing). o.sent) e)
+letter-alone (Ok s) (Err r) e = absurd (number-some r (sym (ap (λ (o : Outgoing). o.refusal) e)))
+letter-alone (Err q) (Ok t) e = absurd (number-some q (ap (λ (o : Outgoing). o.refusal) e))
+letter-alone (Err q) (Err r) e = ap Err (number-alone q r (ap (λ (o : Outgoing). o.refusal) e))
