@@ -35,14 +35,19 @@ pub struct AirPdu {
     pub list: Listed,
 }
 
-// A PDU without a list.
-fn bare(kind: Air) -> AirPdu
-    ensures { result ≡ record { kind = kind; list = no_list } }
+// A PDU without a list, of the kind that `make` makes of what was read.
+fn bare<T, F: FnOnce(T) -> Air>(read: Read<T>, make: F) -> Read<AirPdu>
+    requires { F.pre make read.value }
+    ensures kind { F.post make read.value result.value.kind }
+    ensures list { result.value.list ≡ no_list }
+    ensures next { result.next ≡ read.next }
 {
-    AirPdu {
-        kind,
+    let next = read.next;
+    let value = AirPdu {
+        kind: make(read.value),
         list: no_list(),
-    }
+    };
+    Read { value, next }
 }
 
 fn index_of(kind: Air) -> u32
@@ -88,21 +93,15 @@ impl Part for AirPdu {
         let n = i.next;
         match i.value {
             0 => Read {
-                value: bare(Air::CancelEmergency),
+                value: AirPdu {
+                    kind: Air::CancelEmergency,
+                    list: no_list(),
+                },
                 next: n,
             },
-            1 => map(
-                AckedReport::read(n.extension(s), s),
-                |a| bare(Air::Demand(a)),
-            ),
-            2 => map(
-                AckedEmergency::read(n.extension(s), s),
-                |a| bare(Air::Emergency(a)),
-            ),
-            3 => map(
-                EventReport::read(n.extension(s), s),
-                |a| bare(Air::Event(a)),
-            ),
+            1 => bare(AckedReport::read(n.extension(s), s), Air::Demand),
+            2 => bare(AckedEmergency::read(n.extension(s), s), Air::Emergency),
+            3 => bare(EventReport::read(n.extension(s), s), Air::Event),
             4 => map(
                 NegativeAck::read(n, s),
                 |(ack, list)| AirPdu {
@@ -117,12 +116,9 @@ impl Part for AirPdu {
                     list,
                 },
             ),
-            6 => map(
-                AckedReport::read(n.extension(s), s),
-                |a| bare(Air::Periodic(a)),
-            ),
-            7 => map(n.extension(s).num(s, 0, 7), |r| bare(Air::Positive(r))),
-            _ => map(n.extension(s).num(s, 0, 7), |r| bare(Air::Abort(r))),
+            6 => bare(AckedReport::read(n.extension(s), s), Air::Periodic),
+            7 => bare(n.extension(s).num(s, 0, 7), Air::Positive),
+            _ => bare(n.extension(s).num(s, 0, 7), Air::Abort),
         }
     }
 

@@ -10,23 +10,23 @@ use Rattle.pdu.proofs.downlink.AirPduPart.read.Goals as goal
 
 pub returns-in-0 : goal.returns-in-0
 unfolding air_c air_alt
-returns-in-0 c = rw c.bare.ensures (after-ext c.extension.ensures (in-choice _ _ _ 0 c.in-0.is c.index-i.ensures (in-alt _ _ _ _ _ _ nothing)))
+returns-in-0 c = rw c.no_list.ensures (after-ext c.extension.ensures (in-choice _ _ _ 0 c.in-0.is c.index-i.ensures (in-alt _ _ _ _ _ _ nothing)))
 
 pub returns-in-1 : goal.returns-in-1
 unfolding air_c air_alt
-returns-in-1 c = after-ext c.extension.ensures (in-choice _ _ _ 1 c.in-1.is c.index-i.ensures (let v : c.map.result.value ≡ bare_air (Demand c.read.result.value) = search rules in rw (v, c.map.ensures.next) (in-alt _ _ _ _ _ _ (after-ext c.extension-in-1.ensures c.read.ensures))))
+returns-in-1 c = after-ext c.extension.ensures (in-choice _ _ _ 1 c.in-1.is c.index-i.ensures (let v : c.bare.result.value ≡ bare_air (Demand c.read.result.value) = search rules in rw (v, c.bare.ensures.next) (in-alt _ _ _ _ _ _ (after-ext c.extension-in-1.ensures c.read.ensures))))
 
 pub returns-in-2 : goal.returns-in-2
 unfolding air_c air_alt
-returns-in-2 c = after-ext c.extension.ensures (in-choice _ _ _ 2 c.in-2.is c.index-i.ensures (let v : c.map-in-2.result.value ≡ bare_air (Emergency c.read-in-2.result.value) = search rules in rw (v, c.map-in-2.ensures.next) (in-alt _ _ _ _ _ _ (after-ext c.extension-in-2.ensures c.read-in-2.ensures))))
+returns-in-2 c = after-ext c.extension.ensures (in-choice _ _ _ 2 c.in-2.is c.index-i.ensures (let v : c.bare-in-2.result.value ≡ bare_air (Emergency c.read-in-2.result.value) = search rules in rw (v, c.bare-in-2.ensures.next) (in-alt _ _ _ _ _ _ (after-ext c.extension-in-2.ensures c.read-in-2.ensures))))
 
 pub returns-in-3 : goal.returns-in-3
 unfolding air_c air_alt
-returns-in-3 c = after-ext c.extension.ensures (in-choice _ _ _ 3 c.in-3.is c.index-i.ensures (let v : c.map-in-3.result.value ≡ bare_air (Event c.read-in-3.result.value) = search rules in rw (v, c.map-in-3.ensures.next) (in-alt _ _ _ _ _ _ (after-ext c.extension-in-3.ensures c.read-in-3.ensures))))
+returns-in-3 c = after-ext c.extension.ensures (in-choice _ _ _ 3 c.in-3.is c.index-i.ensures (let v : c.bare-in-3.result.value ≡ bare_air (Event c.read-in-3.result.value) = search rules in rw (v, c.bare-in-3.ensures.next) (in-alt _ _ _ _ _ _ (after-ext c.extension-in-3.ensures c.read-in-3.ensures))))
 
 pub returns-in-4 : goal.returns-in-4
 unfolding air_c air_alt
-returns-in-4 c = after-ext c.extension.ensures (in-choice _ _ _ 4 c.in-4.is c.index-i.ensures (let v : c.map-in-4.result.value ≡ record { kind = Negative c.read-in-4.result.value.0; list = c.read-in-4.result.value.1 } = search rules in rw (v, c.map-in-4.ensures.next) (in-alt _ _ _ _ _ _ c.read-in-4.ensures)))
+returns-in-4 c = after-ext c.extension.ensures (in-choice _ _ _ 4 c.in-4.is c.index-i.ensures (let v : c.map.result.value ≡ record { kind = Negative c.read-in-4.result.value.0; list = c.read-in-4.result.value.1 } = search rules in rw (v, c.map.ensures.next) (in-alt _ _ _ _ _ _ c.read-in-4.ensures)))
 
 pub returns-in-5 : goal.returns-in-5
 unfolding air_c air_alt
@@ -34,11 +34,11 @@ returns-in-5 c = after-ext c.extension.ensures (in-choice _ _ _ 5 c.in-5.is c.in
 
 pub returns-in-6 : goal.returns-in-6
 unfolding air_c air_alt
-returns-in-6 c = after-ext c.extension.ensures (in-choice _ _ _ 6 c.in-6.is c.index-i.ensures (let v : c.map-in-6.result.value ≡ bare_air (Periodic c.read-in-6.result.value) = search rules in rw (v, c.map-in-6.ensures.next) (in-alt _ _ _ _ _ _ (after-ext c.extension-in-6.ensures c.read-in-6.ensures))))
+returns-in-6 c = after-ext c.extension.ensures (in-choice _ _ _ 6 c.in-6.is c.index-i.ensures (let v : c.bare-in-6.result.value ≡ bare_air (Periodic c.read-in-6.result.value) = search rules in rw (v, c.bare-in-6.ensures.next) (in-alt _ _ _ _ _ _ (after-ext c.extension-in-6.ensures c.read-in-6.ensures))))
 
 pub returns-in-7 : goal.returns-in-7
 unfolding air_c air_alt
-returns-in-7 c = after-ext c.extension.ensures (in-choice _ _ _ 7 c.in-7.is c.index-i.ensures (let v : c.map-in-7.result.value ≡ bare_air (Positive c.num.result.value) = search rules in rw (v, c.map-in-7.ensures.next) (in-alt _ _ _ _ _ _ (after-ext c.extension-in-7.ensures c.num.ensures))))
+returns-in-7 c = after-ext c.extension.ensures (in-choice _ _ _ 7 c.in-7.is c.index-i.ensures (let v : c.bare-in-7.result.value ≡ bare_air (Positive c.num.result.value) = search rules in rw (v, c.bare-in-7.ensures.next) (in-alt _ _ _ _ _ _ (after-ext c.extension-in-7.ensures c.num.ensures))))
 
 pub returns-in_default : goal.returns-in_default
 unfolding air_c air_alt
@@ -46,4 +46,4 @@ returns-in_default c = let i = c.index-i in
     let k = i.result.value in
     let r = c.in_default.in_default-own.rest in
     let h : 8 ≤ k = climb k 7 (climb k 6 (climb k 5 (climb k 4 (climb k 3 (climb k 2 (climb k 1 (climb k 0 (omega arith) r.0.0.0.0.0.0.0.1) r.0.0.0.0.0.0.1) r.0.0.0.0.0.1) r.0.0.0.0.1) r.0.0.0.1) r.0.0.1) r.0.1) r.1 in
-    after-ext c.extension.ensures (in-choice _ _ _ 8 (le_antisymm (num-most 0 8 i.ensures) h) i.ensures (let v : c.map-in_default.result.value ≡ bare_air (Abort c.num-in_default.result.value) = search rules in rw (v, c.map-in_default.ensures.next) (in-alt _ _ _ _ _ _ (after-ext c.extension-in_default.ensures c.num-in_default.ensures))))
+    after-ext c.extension.ensures (in-choice _ _ _ 8 (le_antisymm (num-most 0 8 i.ensures) h) i.ensures (let v : c.bare-in_default.result.value ≡ bare_air (Abort c.num-in_default.result.value) = search rules in rw (v, c.bare-in_default.ensures.next) (in-alt _ _ _ _ _ _ (after-ext c.extension-in_default.ensures c.num-in_default.ensures))))
