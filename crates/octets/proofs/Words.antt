@@ -4,11 +4,12 @@ use mathlib.Core.Path.{◌≡◌, refl, sym, ap, ◌∙◌}
 use mathlib.Core.List.{List, [], ◌∷◌}
 use native.Mathlib.Omega.{arith}
 use borrow.Rule.Slice.PartMut.{put_mid}
-use lib.ListN.{length, take, drop, set, length-set, length-drop, replicate}
+use lib.ListN.{length, get_or, take, drop, drop_of_length-le, set, length-set, length-drop, replicate}
 use lib.Seq.{sets, sets-eq, set_out, take-nil, drop-drop, length-take-le}
 use Rattle.std.proofs.Common.{append_assoc}
 use Rattle.std.proofs.lemmas.List.{take-replicate}
 use Rattle.octets.specs.Octets.{zeros}
+use Rattle.octets.specs.laws.Numbers.{next}
 use Rattle.octets.specs.laws.Runs.{length-zeros}
 
 pub sets-out : (vs l : List ℕ) (i : ℕ) → length l ≤ i → sets l i vs ≡ l
@@ -36,3 +37,13 @@ zeros-part l from end to e h =
 
 pub zeros-none : (l : List ℕ) (from end to : ℕ) → end ≡ min to (length l) → end ≤ from → l ≡ sets l from (zeros (to - from))
 zeros-none l from end to e h = sets-cut (zeros (to - from)) l from 0 (λ m. omega (arith, length-zeros (to - from)))
+
+-- ---- one turn of the loop: what is still to do stands beside what is done
+pub put-start : (s out : List ℕ) (at : ℕ) → sets out (at + 0) s ≡ sets out at s
+put-start s out at = let e : at + 0 ≡ at = omega arith in rw e
+
+pub put_step : (s out : List ℕ) (at i : ℕ) → i < length s → sets (set out (at + i) (get_or s i 0)) (at + (i + 1)) (drop (i + 1) s) ≡ sets out (at + i) (drop i s)
+put_step s out at i h = let e : at + (i + 1) ≡ suc (at + i) = omega arith in rw (e, next s i h)
+
+pub put-end : (s out : List ℕ) (at i : ℕ) → length s ≤ i → out ≡ sets out (at + i) (drop i s)
+put-end s out at i h = rw (drop_of_length-le s h)

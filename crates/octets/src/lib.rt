@@ -50,12 +50,23 @@ pub fn octets_of(w: u32) -> [u8; 4]
     w.to_be_bytes()
 }
 
+fn put_octet(out: &mut [u8], i: usize, o: u8)
+    ensures { out.new ≡ set out.old i o }
+{
+    if i < out.len() {
+        out[i] = o;
+    }
+}
+
 pub fn put_octets(out: &mut [u8], at: usize, s: &[u8])
     ensures { out.new ≡ sets out.old at s.now }
 {
-    if at < out.len() {
-        let n = s.len().min(out.len() - at);
-        out[at..at + n].copy_from_slice(&s[..n]);
+    if out.len() <= at {
+        return;
+    }
+    // Octet by octet: as one copy between two lent slices it would need C's memmove.
+    for i in 0..s.len() {
+        put_octet(out, at + i, s[i]);
     }
 }
 

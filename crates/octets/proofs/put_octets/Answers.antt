@@ -1,15 +1,23 @@
-use mathlib.Core.Path.{◌≡◌, sym, ◌∙◌}
-use Prim.Native.Nat.{◌+◌, ◌-◌}
+use mathlib.Core.Path.{refl, sym, ◌∙◌}
 use native.Mathlib.Omega.{arith}
-use lib.Seq.{length-take-le}
-use Rattle.octets.proofs.Words.{sets-out, sets-cut, sets-part}
+use Rattle.octets.proofs.Words.{sets-out, put-start, put_step, put-end}
 use Rattle.octets.proofs.put_octets.Goals as goal
 
-pub returns-then-at-out : goal.returns-then-at-out
-returns-then-at-out c = let s = c.args.s.now in
-    let n = c.min-n.result in
-    let k : c.args.at + n - c.args.at ≡ n = omega arith in
-    rw (k, c.copy_from_slice.ensures.after) (sets-part _ _ _ n (sym (length-take-le n s (omega arith))) (omega arith) ∙ sets-cut s c.args.out.now c.args.at n (λ h. omega arith))
+pub returns-then-out-at : goal.returns-then-out-at
+returns-then-out-at c = let a = c.args in
+    sym (sets-out a.s.now a.out.now a.at (omega arith))
 
-pub returns-else-at-out : goal.returns-else-at-out
-returns-else-at-out c = sym (sets-out c.args.s.now c.args.out.now c.args.at (omega arith))
+pub loop-i-init : goal.loop-i-init
+loop-i-init c = let a = c.args in
+    (refl, put-start a.s.now a.out.now a.at)
+
+pub loop-i-preserved : goal.loop-i-preserved
+loop-i-preserved c = let p = c.put_octet in
+    let a = c.args in (
+      p.auto.out ∙ c.loop-i.invariant.0,
+      rw p.ensures (put_step a.s.now c.loop-i.out a.at c.loop-i.i (omega arith)) ∙ c.loop-i.invariant.1,
+    )
+
+pub returns : goal.returns
+returns c = let a = c.args in
+    put-end a.s.now c.loop-i.out a.at c.loop-i.i (omega arith) ∙ c.loop-i.invariant.1
