@@ -352,28 +352,35 @@ def faults_of(edit, found):
 
 # What a user or a host calls: the whole of these crates, and the root of `pdu`.
 CALLED = {"adschost", "adschost_c", "air", "air_bench", "bench", "ground", "ground_lent", "pdu_reader"}
-FUNCTION_HEAD = re.compile(r'^( *)pub (?:extern "C" )?fn (\w+)')
+FUNCTION_HEAD = re.compile(r'^( *)(?:pub )?(?:extern "C" )?fn (\w+)')
+# Where functions stand: with a type, for one of the repository's traits, whose clauses they have without a word, or in such a trait.
+IMPL = re.compile(r"impl(?:<[^>]*>)? (?:(\w+) for )?(\w+)")
+TRAIT = re.compile(r"pub trait (\w+)")
 
 
-def contracts_of(source):
+def contracts_of(source, traits):
     """The public functions of a file that state a result, as paths below the module."""
-    found, home, lines = [], [], source.read_text(encoding="utf-8").splitlines()
+    found, home, stated, lines = [], "", False, source.read_text(encoding="utf-8").splitlines()
     for i, line in enumerate(lines):
-        if m := re.match(r"impl(?:<[^>]*>)? (\w+)", line):
-            home = [m[1]]
+        if m := IMPL.match(line):
+            home, stated = m[2] + (m[1] or ""), m[1] in traits
+        elif m := TRAIT.match(line):
+            home, stated = m[1], None
         elif m := FUNCTION_HEAD.match(line):
-            head = lines[i:next(k for k in range(i, len(lines)) if lines[k] in (m[1] + "{", m[1] + "}"))]
-            if any(h.lstrip().startswith("ensures") for h in head):
-                found.append("/".join((home if m[1] else []) + [m[2]]))
+            end = next(k for k in range(i, len(lines)) if lines[k] in (m[1] + "{", m[1] + "}") or lines[k].endswith(";"))
+            clauses, body = any(h.lstrip().startswith("ensures") for h in lines[i:end]), lines[end] == m[1] + "{"
+            if m[1] and stated or clauses and (line.lstrip().startswith("pub ") or m[1] and stated is None and body):
+                found.append("/".join(([home] if m[1] else []) + [m[2]]))
     return found
 
 
 def untried(sheets):
     """Public contracts with too few wrong answers."""
     tried = [(crate.name, place) for crate, edit in sheets.edits for answer in answers_of(edit)[0] for place in answer.places]
+    traits = {m[1] for source in sheets.repository.root.glob("crates/*/src/*.rt") for m in TRAIT.finditer(source.read_text(encoding="utf-8"))}
     for source in sorted(sheets.repository.root.glob("crates/*/src/*.rt")):
         crate, module = source.parent.parent.name, "" if source.stem in ("lib", "main") else source.stem + "/"
-        for function in contracts_of(source):
+        for function in contracts_of(source, traits):
             want = 2 if crate in CALLED or (crate, module) == ("pdu", "") else 1
             have = tried.count((crate, "proofs/%s%s" % (module, function)))
             if have < want:
