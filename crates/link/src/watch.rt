@@ -47,6 +47,8 @@ fn timer_ok(run: bool, most: u32, left: u32) -> bool
 }
 
 // Whether the running timers are those of the table, each with 1 to as many seconds left as a start loads.
+// Compiled into its two callers, where the table is a constant: else each call reads it timer by timer.
+#[inline(always)]
 pub fn timers_ok(w: Watch, at: [u8; 5], left: [u32; TIMERS], most: [u32; TIMERS]) -> bool
     ensures { result ≡ below timers (timer_good w at left most) }
 {
