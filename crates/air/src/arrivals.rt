@@ -41,7 +41,7 @@ fn pass(l: AirLink, li: u8, event: u8) -> Answer
 {
     let first = turn(l, li);
     let m = decide(first.at, event);
-    if m.fate != Fate::Goes {
+    if m.fate != GOES {
         return abort(l, SEQUENCE_ERROR);
     }
     tell(l, first.perform(m, most_of(l), DATA_REQUEST), 0, ack_of(m))

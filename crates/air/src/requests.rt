@@ -10,7 +10,7 @@ use air_answer::sent::write;
 use air_tables::decide::decide;
 use air_tables::names::*;
 use link::actions::*;
-use link::moves::Fate;
+use link::moves::GOES;
 use pdu::downlink::AirPdu;
 use refusals::{BAD_RECORD, NOT_PERMITTED};
 
@@ -21,7 +21,7 @@ fn ask(l: AirLink, a: AirPdu, entry: u8) -> Answer
 {
     let first = turn(l, LI_ACTIVE);
     let m = decide(first.at, request_event(a.kind));
-    if m.fate != Fate::Goes {
+    if m.fate != GOES {
         return refuse(l, NOT_PERMITTED);
     }
     match write(a) {

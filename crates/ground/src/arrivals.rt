@@ -13,7 +13,7 @@ use ground_tables::decide::{decide, li_end};
 use ground_tables::names::*;
 use link::actions::DATA_REQUEST;
 use link::executor::Step;
-use link::moves::{Fate, Move};
+use link::moves::{GOES, Move};
 use link::watch::all_idle;
 use pdu::decode_air;
 use pdu::reasons::{INVALID_PDU, SEQUENCE_ERROR};
@@ -50,7 +50,7 @@ fn pass(l: Link, event: u8) -> Answer
 {
     let first = turn(l, LI_ACTIVE);
     let m = decide(first.at, event);
-    if m.fate != Fate::Goes {
+    if m.fate != GOES {
         return abort(l, SEQUENCE_ERROR);
     }
     let next = agree_on(l, event, 0, m);

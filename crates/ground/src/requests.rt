@@ -13,7 +13,7 @@ use ground_tables::decide::{decide, li_end};
 use ground_tables::names::*;
 use link::actions::{ABORT_REQUEST, DATA_REQUEST};
 use link::executor::Step;
-use link::moves::Fate;
+use link::moves::GOES;
 use pdu::uplink::Ground;
 use pdu_parts::interval::Interval;
 use refusals::{BAD_RECORD, NOT_PERMITTED};
@@ -41,7 +41,7 @@ fn ask(l: Link, g: Ground, li: u8, entry: u8) -> Answer
     let first = turn(l, li);
     let event = request_event(g);
     let m = decide(first.at, event);
-    if m.fate != Fate::Goes {
+    if m.fate != GOES {
         return refuse(l, NOT_PERMITTED);
     }
     match write(g) {

@@ -1,23 +1,16 @@
 -- Moves, the words of their rows, and tables of rows: which ones a side has is its own matter.
 use Rattle.std.specs.Prelude.{Bool, true, false, List, [], ◌∷◌, ℕ, ◌-◌, ◌+◌, ◌*◌, get_or, eqb, leb}
 use Rattle.link.specs.Tests.{both, pick}
-use Rattle.link.specs.Names.{no_timer, LI, GROUP}
-use Rattle.link.specs.declared.moves.Fate.{Fate}
-use Rattle.link.specs.declared.moves.Fate.TheVariants.{Goes, Refuses, Aborts}
+use Rattle.link.specs.Names.{no_timer, LI, GROUP, GOES, REFUSES, ABORTS}
 use Rattle.link.specs.declared.moves.Move.{Move}
 
 -- a move that goes, and neither refuses a request nor aborts for data
-abbrev pub goes_on : Fate → Bool
-goes_on Goes = true
-goes_on Refuses = false
-goes_on Aborts = false
-
 abbrev pub does_go : Move → Bool
-does_go m = goes_on m.fate
+does_go m = eqb m.fate GOES
 
 -- a move: to a state of a module, with at most one timer stopped, an indication, a send and one timer started, in this order
 abbrev pub go : ℕ → ℕ → ℕ → Bool → Bool → ℕ → Move
-go who to stop ind send start = record { fate = Goes; stop = stop; ind = ind; send = send; start = start; who = who; to = to }
+go who to stop ind send start = record { fate = GOES; stop = stop; ind = ind; send = send; start = start; who = who; to = to }
 
 -- the words of the rows
 abbrev pub to : ℕ → ℕ → Move
@@ -40,11 +33,11 @@ abbrev pub li_to : ℕ → Move
 li_to k = to LI k
 
 -- "Downlink data not listed for a state: abort 3. Requests not listed: refusal 1."
-abbrev pub still : Fate → Move
+abbrev pub still : ℕ → Move
 still fate = record { fate = fate; stop = no_timer; ind = false; send = false; start = no_timer; who = 0; to = 0 }
 
 abbrev pub unlisted : ℕ → Move
-unlisted event = pick (leb event 3) (still Refuses) (still Aborts)
+unlisted event = pick (leb event 3) (still REFUSES) (still ABORTS)
 
 pub record Row : Type 0 where
   pub state : ℕ

@@ -66,3 +66,13 @@ no_request = of 4 0
 
 abbrev pub no_data : ℕ
 no_data = of 4 4
+
+-- what comes of an event: a move that goes, a request that is refused, data that aborts
+abbrev pub GOES : ℕ
+GOES = 0
+
+abbrev pub REFUSES : ℕ
+REFUSES = 1
+
+abbrev pub ABORTS : ℕ
+ABORTS = 3

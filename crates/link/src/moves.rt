@@ -36,18 +36,16 @@ pub const NO_REQUEST: u8 = 64;
 pub const NO_DATA: u8 = 68;
 
 // What comes of an event: a move that goes, a request that is refused, data that aborts.
-#[derive(Drop)]
-#[derive(Clone, Copy, PartialEq, Eq, Debug)]
-pub enum Fate {
-    Goes,
-    Refuses,
-    Aborts,
-}
+pub const GOES: u8 = 0;
+
+pub const REFUSES: u8 = 1;
+
+pub const ABORTS: u8 = 3;
 
 #[derive(Drop)]
 #[derive(Clone, Copy)]
 pub struct Move {
-    pub fate: Fate,
+    pub fate: u8,
     pub stop: u8,
     pub ind: bool,
     pub send: bool,
@@ -60,7 +58,7 @@ pub fn go(who: u8, to: u8, stop: u8, ind: bool, send: bool, start: u8) -> Move
     ensures { result ≡ go who to stop ind send start }
 {
     Move {
-        fate: Fate::Goes,
+        fate: GOES,
         stop,
         ind,
         send,
@@ -80,11 +78,7 @@ pub fn li_to(k: u8) -> Move
 pub fn unlisted(kind: u8) -> Move
     ensures { result ≡ unlisted kind }
 {
-    let fate = if kind <= 3 {
-        Fate::Refuses
-    } else {
-        Fate::Aborts
-    };
+    let fate: u8 = if kind <= 3 { REFUSES } else { ABORTS };
     Move {
         fate,
         stop: NO_TIMER,

@@ -12,7 +12,6 @@ use borrow.Author.Tests.{eqb-true, eqb-false, le-leb, lt-leb}
 use Rattle.link.specs.Tests.{both, either, pick, below}
 use Rattle.link.specs.Names.{timers, EM}
 use Rattle.link.specs.Watch.{runs, state_ok}
-use Rattle.link.specs.declared.moves.Fate.TheVariants.{Refuses, Aborts}
 use Rattle.link.specs.Moves.{Row, look, still, unlisted, move_in, does_go}
 use Rattle.link.specs.Step.{rest_at}
 use Rattle.link.specs.declared.moves.Move.{Move}
@@ -53,7 +52,7 @@ still-fits : (b : Tables) (at : List ℕ) (e f : ℕ) → T (fits b at e (unlist
 unfolding fits
 still-fits b at e f = go (leb f 3)
   where
-    go : (x : Bool) → T (fits b at e (pick x (still Refuses) (still Aborts)))
+    go : (x : Bool) → T (fits b at e (pick x (still 1) (still 3)))
     go true = tt
     go false = tt
 
