@@ -1,9 +1,7 @@
 -- What is under way (docs/FLIGHT.md): "with its PDU, in the order of the answers and of their entries", the oldest first.
-use Rattle.std.specs.Prelude.{Bool, true, false, List, [], ◌∷◌, ◌++◌, ℕ, ltb, length, take, get_or, replicate}
+use Rattle.std.specs.Prelude.{Bool, false, List, [], ◌∷◌, ◌++◌, ℕ, ltb, length, take, get_or, replicate}
 use Rattle.std.proofs.lemmas.List.Edits.{sets}
 use Rattle.text.specs.Text.{pick}
-use Rattle.channel.specs.declared.Kind.{Kind}
-use Rattle.channel.specs.declared.Kind.TheVariants.{Nothing, Start, Data, End, Abort, UserAbort}
 use Rattle.channel.specs.declared.Letter.{Letter}
 use Rattle.channel.specs.declared.Channel.{Channel}
 
@@ -15,33 +13,16 @@ unfoldable pub no_octets : List ℕ
 no_octets = replicate room 0
 
 -- a letter with the octets of a PDU, and zeros
-unfoldable pub letter_of : Bool → ℕ → Kind → List ℕ → Letter
+unfoldable pub letter_of : Bool → ℕ → ℕ → List ℕ → Letter
 letter_of up number kind s =
     record { up = up; number = number; kind = kind; n = length (take room s); octets = sets no_octets 0 (take room s) }
-
--- the letters that begin a dialogue, and those that end it
-abbrev pub starts : Kind → Bool
-starts Nothing = false
-starts Start = true
-starts Data = false
-starts End = false
-starts Abort = false
-starts UserAbort = false
-
-abbrev pub ends : Kind → Bool
-ends Nothing = false
-ends Start = false
-ends Data = false
-ends End = true
-ends Abort = false
-ends UserAbort = false
 
 -- the octets of its PDU
 abbrev pub octets_in : Letter → List ℕ
 octets_in l = take l.n l.octets
 
 unfoldable pub blank : Letter
-blank = record { up = false; number = 0; kind = Nothing; n = 0; octets = no_octets }
+blank = record { up = false; number = 0; kind = 0; n = 0; octets = no_octets }
 
 -- the letters under way
 unfoldable pub held_in : Channel → List Letter

@@ -13,23 +13,12 @@ pub const ROOM: usize = 115;
 // One more than may be under way, so that it shows where there would be too many.
 pub const SLOTS: usize = 17;
 
-// What a letter is for its dialogue. The user's abort has no PDU; `Nothing` is where no letter is.
-#[derive(Clone, Copy, Debug, PartialEq, Eq)]
-pub enum Kind {
-    Nothing,
-    Start,
-    Data,
-    End,
-    Abort,
-    UserAbort,
-}
-
 // A letter goes `up` to the aircraft, or down to the ground; it is of a dialogue by its number, and of a kind; its first n octets are a PDU, the others are 0.
 #[derive(Clone, Copy, Drop)]
 pub struct Letter {
     pub up: bool,
     pub number: u64,
-    pub kind: Kind,
+    pub kind: u8,
     pub n: usize,
     pub octets: [u8; ROOM],
 }
@@ -42,7 +31,7 @@ pub struct Channel {
 }
 
 // A letter; octets that have no room are left out.
-pub fn write_letter(up: bool, number: u64, kind: Kind, s: &[u8]) -> Letter
+pub fn write_letter(up: bool, number: u64, kind: u8, s: &[u8]) -> Letter
     ensures { result ≡ letter_of up number kind s.now }
 {
     let n = least(ROOM, s.len());
@@ -63,7 +52,7 @@ fn blank_letter() -> Letter
     Letter {
         up: false,
         number: 0,
-        kind: Kind::Nothing,
+        kind: 0,
         n: 0,
         octets: [0; ROOM],
     }

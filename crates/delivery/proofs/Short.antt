@@ -5,7 +5,7 @@ use mathlib.Core.List.{List, [], ◌∷◌, ◌++◌}
 use Prim.Native.Nat.{ℕ, ◌≤◌}
 use native.Mathlib.Nat.{le_trans, min-le_right}
 use native.Mathlib.Omega.{arith}
-use lib.Dec.{lit≤}
+use lib.Dec.{eqb, lit≤}
 use lib.ListN.{length, take, length-append, length-take}
 use Rattle.text.specs.Text.{both, decimal}
 use Rattle.text.specs.Page.{Page}
@@ -20,7 +20,6 @@ use Rattle.air_line.specs.AnswerText as air
 use Rattle.ground_answer.specs.declared.answer.Said as ground_said
 use Rattle.air_answer.specs.declared.answer.Said as air_said
 use Rattle.channel.specs.declared.Letter.{Letter}
-use Rattle.channel.specs.Channel.{ends}
 use Rattle.delivery.specs.Hearing.{Carried, came, HEARD-MOST, Carries}
 use Rattle.delivery.specs.declared.hear.Carried as code
 use Rattle.delivery.specs.Deliveries.{heard_words, word_for, head_text, LETTER-MOST}
@@ -49,7 +48,7 @@ pub came-short : (l : Letter) → length l.octets ≡ 115 → length (came l) �
 unfolding came
 came-short l e =
     let o = taken l.n l.octets (omega arith) in
-    of_two l.up 115 _ _ o (of_two (ends l.kind) 115 _ _ (omega arith) o)
+    of_two l.up 115 _ _ o (of_two (eqb l.kind 3) 115 _ _ (omega arith) o)
 
 head-short : (number i : ℕ) (l : Letter) → length l.octets ≡ 115 → length (head_text number i l) ≤ 450
 unfolding head_text

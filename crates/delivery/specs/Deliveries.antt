@@ -7,8 +7,6 @@ use Rattle.text.specs.Words.{word_at}
 use Rattle.text.specs.Page.{Page, Writes}
 use Rattle.script.specs.Entries.{spaced}
 use Rattle.script.specs.Replies.{Reply}
-use Rattle.channel.specs.declared.Kind.{Kind}
-use Rattle.channel.specs.declared.Kind.TheVariants.{Nothing, Start, Data, End, Abort, UserAbort}
 use Rattle.channel.specs.declared.Letter.{Letter}
 use Rattle.channel.specs.Channel.{oldest_of}
 use Rattle.world.specs.World.{World}
@@ -20,16 +18,8 @@ heard_words =
     [] ∷ ascii " air start-ind" ∷ ascii " air data" ∷ ascii " air end-ind" ∷ ascii " air ground-abort" ∷ ascii " air peer-abort" ∷ ascii " ground start-cnf"
     ∷ ascii " ground data" ∷ ascii " ground end-cnf" ∷ ascii " ground air-abort" ∷ ascii " ground peer-abort" ∷ []
 
-abbrev pub word_of : Kind → ℕ
-word_of Nothing = 0
-word_of Start = 1
-word_of Data = 2
-word_of End = 3
-word_of Abort = 4
-word_of UserAbort = 5
-
 unfoldable pub word_for : Letter → ℕ
-word_for l = pick l.up (word_of l.kind) (word_of l.kind + 5)
+word_for l = pick l.up l.kind (l.kind + 5)
 
 unfoldable pub head_text : ℕ → ℕ → Letter → List ℕ
 head_text number i l =

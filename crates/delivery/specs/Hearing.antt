@@ -8,7 +8,8 @@ use Rattle.pdu_parts.specs.Lists.{no_list}
 use Rattle.bench_line.specs.AnswerText as ground
 use Rattle.air_line.specs.AnswerText as air
 use Rattle.channel.specs.declared.Letter.{Letter}
-use Rattle.channel.specs.Channel.{octets_in, ends}
+use Rattle.channel.specs.Channel.{octets_in}
+use Rattle.sending.specs.Ways.{END}
 use Rattle.world.specs.World.{World, world_of}
 use Rattle.world.specs.GroundTurns as to_ground
 use Rattle.world.specs.AirTurns as to_air
@@ -16,7 +17,7 @@ use Rattle.delivery.specs.declared.hear.Carried as code
 
 -- the octets that the end hears: "`end-cnf`, which has no octets (B27)"
 unfoldable pub came : Letter → List ℕ
-came l = pick l.up (octets_in l) (pick (ends l.kind) [] (octets_in l))
+came l = pick l.up (octets_in l) (pick (eqb l.kind END) [] (octets_in l))
 
 -- the world after it, what the line says of it, and whether it stays under way
 pub record Carried : Type 0 where

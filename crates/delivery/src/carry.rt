@@ -6,7 +6,7 @@ ghost use Rattle.delivery.specs.Hearing.{Carries};
 ghost use Rattle.delivery.specs.Deliveries.{word_for, head_text, carried_one, carried, LETTER-MOST, Flies};
 
 use crate::hear::{Carried, came, come};
-use channel::{Kind, Letter, oldest, pass};
+use channel::{Letter, oldest, pass};
 use script::answer::put_spaced;
 use text::words::put_word;
 use text::{put_byte, put_decimal};
@@ -24,14 +24,7 @@ pub struct Flown {
 fn word_for(l: Letter) -> usize
     ensures { result ≡ word_for l }
 {
-    let k = match l.kind {
-        Kind::Nothing => 0,
-        Kind::Start => 1,
-        Kind::Data => 2,
-        Kind::End => 3,
-        Kind::Abort => 4,
-        Kind::UserAbort => 5,
-    };
+    let k = l.kind as usize;
     if l.up { k } else { k + 5 }
 }
 

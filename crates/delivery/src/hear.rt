@@ -5,9 +5,10 @@ ghost use Rattle.world.specs.World.{world_of};
 ghost use Rattle.delivery.specs.Hearing.{HEARD-MOST, Carries, came, ground_carried, air_carried, came_to, comes};
 
 use crate::answers::{put_air, put_ground};
-use channel::{Kind, Letter, ROOM};
+use channel::{Letter, ROOM};
 use pdu_parts::lists::no_list;
 use refusals::SCRIPT_LINE;
+use sending::END;
 use text::{least, put_text};
 use world::air_turn::turn_air;
 use world::ground_turn::turn_ground;
@@ -26,7 +27,7 @@ pub struct Carried {
 pub fn came(l: &Letter) -> &[u8]
     ensures { result.now ≡ came l.now }
 {
-    if !l.up && l.kind == Kind::End {
+    if !l.up && l.kind == END {
         return &l.octets[..0];
     }
     let n = least(l.n, ROOM);

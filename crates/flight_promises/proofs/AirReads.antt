@@ -8,7 +8,7 @@ use borrow.Author.Tests.{eqb-true, le-leb}
 use lib.Dec.{eqb, leb}
 use lib.ListN.{length, take, replicate}
 use lib.Seq.{take-append_seam}
-use Rattle.text.specs.Text.{pick}
+use Rattle.text.specs.Text.{pick, both}
 use Rattle.per.specs.Formats.{via, dep, field, choice, alt_codec, absent}
 use Rattle.per.specs.Pdu.{got, encode, read_pdu}
 use Rattle.per.proofs.RoundTrip.{length-encode}
@@ -21,7 +21,6 @@ use Rattle.pdu.proofs.DownlinkNorms.{air-norm}
 use Rattle.pdu_parts.specs.Lists.{no_list}
 use Rattle.air_answer.specs.Sent.{sent, letter_of, outgoing}
 use Rattle.ground_answer.specs.Events.{reason_in}
-use Rattle.channel.specs.declared.Kind.TheVariants as kinds
 use Rattle.sending.specs.Ways.{kind_of}
 use Rattle.flight_promises.specs.Fitting.{down_reads, down_fits}
 
@@ -35,18 +34,18 @@ down_goes c s = down_fits (kind_of c s) s
 module _ (a : AirPdu) (h : air_c.chk a ≡ 0) where
   pub starts-well : down_goes 1 (encode air_c a) ≡ true
   unfolding down_goes down_fits down_reads kind_of
-  starts-well = ap (down_reads kinds.Start) (air-written a h)
+  starts-well = ap (down_reads 1) (air-written a h)
 
   pub data-well : down_goes 2 (encode air_c a) ≡ true
   unfolding down_goes down_fits down_reads kind_of
-  data-well = ap (down_reads kinds.Data) (air-written a h)
+  data-well = ap (down_reads 2) (air-written a h)
 
 -- of an end response no octets are heard
 pub ends-well : (s : List ℕ) → down_goes 3 s ≡ true
 unfolding down_goes down_fits kind_of
 ends-well s = refl
 
-abort-by : (b : Bool) (s : List ℕ) → down_reads kinds.Abort (read_pdu air_c s) ≡ true → down_fits (pick b kinds.UserAbort kinds.Abort) s ≡ true
+abort-by : (b : Bool) (s : List ℕ) → down_reads 4 (read_pdu air_c s) ≡ true → down_fits (pick (both true b) 5 4) s ≡ true
 unfolding down_fits
 abort-by true s h = refl
 abort-by false s h = h
@@ -55,7 +54,7 @@ pub aborts-well : (n : ℕ) → air_c.chk (bare_air (Abort n)) ≡ 0 → eqb n 2
 unfolding down_goes kind_of down_reads reason_in
 aborts-well n h r =
     let s = encode air_c (bare_air (Abort n)) in
-    abort-by (eqb (length s) 0) s (ap (down_reads kinds.Abort) (air-written (bare_air (Abort n)) h) ∙ ap (λ (x : AirPdu). down_reads kinds.Abort (got x)) (air-norm (Abort n) no_list) ∙ rw r)
+    abort-by (eqb (length s) 0) s (ap (down_reads 4) (air-written (bare_air (Abort n)) h) ∙ ap (λ (x : AirPdu). down_reads 4 (got x)) (air-norm (Abort n) no_list) ∙ rw r)
 
 -- the octets of an answer
 pub sent_is : (s : List ℕ) → take (sent s).n (sent s).octets ≡ s

@@ -40,7 +40,6 @@ use Rattle.air.specs.Runs.{answered}
 use Rattle.air.specs.declared.call.Call.{Call}
 use Rattle.air.specs.declared.call.Call.TheVariants.{Request, UserAbort, Elapse, StartInd, Data, EndInd, PeerAbort, GroundAbort, Down}
 use Rattle.script.specs.Entries.{goes}
-use Rattle.channel.specs.declared.Kind.TheVariants as kinds
 use Rattle.sending.specs.Ways.{kind_of}
 use Rattle.flight_promises.specs.Fitting.{up_reads, down_fits}
 use Rattle.flight_promises.proofs.Goings.{Sends, nothing, after, goes_one, goes-if, move-goes}
@@ -156,9 +155,9 @@ unfoldable pub heard_well : Call → List ℕ → Bool
 heard_well (Request kind) s = true
 heard_well UserAbort s = true
 heard_well (Elapse n) s = true
-heard_well StartInd s = up_reads kinds.Start (read_pdu ground_c s)
-heard_well Data s = up_reads kinds.Data (read_pdu ground_c s)
-heard_well EndInd s = pick (eqb (length s) 0) true (up_reads kinds.End (read_pdu ground_c s))
+heard_well StartInd s = up_reads 1 (read_pdu ground_c s)
+heard_well Data s = up_reads 2 (read_pdu ground_c s)
+heard_well EndInd s = pick (eqb (length s) 0) true (up_reads 3 (read_pdu ground_c s))
 heard_well PeerAbort s = true
 heard_well GroundAbort s = not (eqb (reason_of (read_pdu ground_c s)) 2)
 heard_well Down s = true
@@ -167,22 +166,22 @@ takes-clean : (l : AirLink) (k : ℕ) (g : Ground) → may_come k (uplink_event 
 unfolding taken
 takes-clean l k g h = rw h (passes-clean l k (uplink_event g))
 
-starts_clean : (l : AirLink) (x : per.Answer Ground) → up_reads kinds.Start x ≡ true → CleanAnswer (taken l 1 x)
+starts_clean : (l : AirLink) (x : per.Answer Ground) → up_reads 1 x ≡ true → CleanAnswer (taken l 1 x)
 unfolding up_reads
 starts_clean l (got g) h = takes-clean l 1 g h
 starts_clean l (refused n) h = absurd (no_true (sym h))
 
-data-clean : (l : AirLink) (x : per.Answer Ground) → up_reads kinds.Data x ≡ true → CleanAnswer (taken l 2 x)
+data-clean : (l : AirLink) (x : per.Answer Ground) → up_reads 2 x ≡ true → CleanAnswer (taken l 2 x)
 unfolding up_reads
 data-clean l (got g) h = takes-clean l 2 g h
 data-clean l (refused n) h = absurd (no_true (sym h))
 
-all-clean : (l : AirLink) (x : per.Answer Ground) → up_reads kinds.End x ≡ true → CleanAnswer (all_cancelled l x)
+all-clean : (l : AirLink) (x : per.Answer Ground) → up_reads 3 x ≡ true → CleanAnswer (all_cancelled l x)
 unfolding up_reads all_cancelled
 all-clean l (got g) h = let a = bare_air (Positive 6) in rw (h, goes-out a (may-ack 6 refl)) (ends-clean l true (encode air_c a) (down-short a))
 all-clean l (refused n) h = absurd (no_true (sym h))
 
-end_clean : (l : AirLink) (b : Bool) (x : per.Answer Ground) → pick b true (up_reads kinds.End x) ≡ true → CleanAnswer (pick b (ended l false (sent [])) (all_cancelled l x))
+end_clean : (l : AirLink) (b : Bool) (x : per.Answer Ground) → pick b true (up_reads 3 x) ≡ true → CleanAnswer (pick b (ended l false (sent [])) (all_cancelled l x))
 end_clean l true x h = ends-clean l false [] no_octets
 end_clean l false x h = all-clean l x h
 

@@ -8,12 +8,10 @@ use borrow.Author.Tests.{eqb-true, le-leb}
 use lib.Dec.{eqb, leb}
 use lib.ListN.{length, take, replicate}
 use lib.Seq.{take-append_seam}
-use Rattle.text.specs.Text.{pick}
+use Rattle.text.specs.Text.{pick, both}
 use Rattle.per.specs.Formats.{via, dep, field, choice, alt_codec, absent}
 use Rattle.per.specs.Pdu.{got, encode, read_pdu}
 use Rattle.per.proofs.RoundTrip.{length-encode}
-use Rattle.pdu_events.specs.declared.changes.Changes.{Changes}
-use Rattle.pdu_parts.specs.declared.periodic.Periodic.{Periodic}
 use Rattle.pdu.specs.declared.uplink.Ground.{Ground}
 use Rattle.pdu.specs.declared.uplink.Ground.TheVariants.{CancelAll, CancelContract, CancelEmergencyAck, DemandContract, EventContract, ModifyEmergency, PeriodicContract, Abort}
 use Rattle.pdu.specs.UplinkTable.{ground_alt, ground_c}
@@ -22,42 +20,22 @@ use Rattle.pdu.proofs.UplinkBounds.{ground-most}
 use Rattle.pdu.proofs.UplinkNorms.{ground-norm, ground-periodic-norm, ground-event-norm}
 use Rattle.ground_answer.specs.Sent.{SENT-MOST, sent, letter_of, outgoing}
 use Rattle.air_answer.specs.Events.{uplink_event, reason_in}
-use Rattle.channel.specs.declared.Kind.{Kind}
-use Rattle.channel.specs.declared.Kind.TheVariants as kinds
 use Rattle.sending.specs.Ways.{kind_of}
-use Rattle.flight_promises.specs.Fitting.{up_may, up_reads, up_fits}
+use Rattle.flight_promises.specs.Fitting.{up_reads, up_fits}
 
 -- absent parts of a value matter to no test
-events-alike : (kind : Kind) (v w : Changes) → up_may kind (EventContract v) ≡ up_may kind (EventContract w)
-unfolding uplink_event reason_in
-events-alike kinds.Start v w = refl
-events-alike kinds.Data v w = refl
-events-alike kinds.Nothing v w = refl
-events-alike kinds.End v w = refl
-events-alike kinds.Abort v w = refl
-events-alike kinds.UserAbort v w = refl
-
-periods-alike : (kind : Kind) (v w : Periodic) → up_may kind (PeriodicContract v) ≡ up_may kind (PeriodicContract w)
-unfolding uplink_event reason_in
-periods-alike kinds.Start v w = refl
-periods-alike kinds.Data v w = refl
-periods-alike kinds.Nothing v w = refl
-periods-alike kinds.End v w = refl
-periods-alike kinds.Abort v w = refl
-periods-alike kinds.UserAbort v w = refl
-
-up_same : (kind : Kind) (g : Ground) → up_reads kind (got (ground_c.norm g)) ≡ up_reads kind (got g)
+up_same : (kind : ℕ) (g : Ground) → up_reads kind (got (ground_c.norm g)) ≡ up_reads kind (got g)
 unfolding up_reads uplink_event reason_in
 up_same kind CancelAll = ap (λ (x : Ground). up_reads kind (got x)) (ground-norm CancelAll (λ e. absurd (omega (arith, e))) (λ e. absurd (omega (arith, e))))
 up_same kind (CancelContract n) = ap (λ (x : Ground). up_reads kind (got x)) (ground-norm (CancelContract n) (λ e. absurd (omega (arith, e))) (λ e. absurd (omega (arith, e))))
 up_same kind CancelEmergencyAck = ap (λ (x : Ground). up_reads kind (got x)) (ground-norm CancelEmergencyAck (λ e. absurd (omega (arith, e))) (λ e. absurd (omega (arith, e))))
 up_same kind (DemandContract v) = ap (λ (x : Ground). up_reads kind (got x)) (ground-norm (DemandContract v) (λ e. absurd (omega (arith, e))) (λ e. absurd (omega (arith, e))))
-up_same kind (EventContract v) = ap (λ (x : Ground). up_reads kind (got x)) (ground-event-norm v) ∙ events-alike kind _ v
+up_same kind (EventContract v) = ap (λ (x : Ground). up_reads kind (got x)) (ground-event-norm v)
 up_same kind (ModifyEmergency i) = ap (λ (x : Ground). up_reads kind (got x)) (ground-norm (ModifyEmergency i) (λ e. absurd (omega (arith, e))) (λ e. absurd (omega (arith, e))))
-up_same kind (PeriodicContract a) = ap (λ (x : Ground). up_reads kind (got x)) (ground-periodic-norm a) ∙ periods-alike kind _ a
+up_same kind (PeriodicContract a) = ap (λ (x : Ground). up_reads kind (got x)) (ground-periodic-norm a)
 up_same kind (Abort n) = ap (λ (x : Ground). up_reads kind (got x)) (ground-norm (Abort n) (λ e. absurd (omega (arith, e))) (λ e. absurd (omega (arith, e))))
 
-pub up-reads : (kind : Kind) (g : Ground) → ground_c.chk g ≡ 0 → up_reads kind (read_pdu ground_c (encode ground_c g)) ≡ up_reads kind (got g)
+pub up-reads : (kind : ℕ) (g : Ground) → ground_c.chk g ≡ 0 → up_reads kind (read_pdu ground_c (encode ground_c g)) ≡ up_reads kind (got g)
 up-reads kind g h = ap (up_reads kind) (ground-written g h) ∙ up_same kind g
 
 pub up-short : (g : Ground) → length (encode ground_c g) ≤ 115
@@ -68,31 +46,31 @@ unfoldable pub up_goes : ℕ → List ℕ → Bool
 up_goes c s = up_fits (kind_of c s) s
 
 -- an end, with a PDU or without one
-end_by : (b x : Bool) → x ≡ true → pick b true x ≡ true
+end_by : (b x : Bool) → x ≡ true → pick (both true b) true x ≡ true
 end_by true x h = refl
 end_by false x h = h
 
-abort-by : (b : Bool) (s : List ℕ) → up_reads kinds.Abort (read_pdu ground_c s) ≡ true → up_fits (pick b kinds.UserAbort kinds.Abort) s ≡ true
+abort-by : (b : Bool) (s : List ℕ) → up_reads 4 (read_pdu ground_c s) ≡ true → up_fits (pick (both true b) 5 4) s ≡ true
 unfolding up_fits
 abort-by true s h = refl
 abort-by false s h = h
 
 module _ (g : Ground) (h : ground_c.chk g ≡ 0) where
-  pub starts-well : up_reads kinds.Start (got g) ≡ true → up_goes 1 (encode ground_c g) ≡ true
+  pub starts-well : up_reads 1 (got g) ≡ true → up_goes 1 (encode ground_c g) ≡ true
   unfolding up_goes up_fits kind_of
-  starts-well r = up-reads kinds.Start g h ∙ r
+  starts-well r = up-reads 1 g h ∙ r
 
-  pub data-well : up_reads kinds.Data (got g) ≡ true → up_goes 2 (encode ground_c g) ≡ true
+  pub data-well : up_reads 2 (got g) ≡ true → up_goes 2 (encode ground_c g) ≡ true
   unfolding up_goes up_fits kind_of
-  data-well r = up-reads kinds.Data g h ∙ r
+  data-well r = up-reads 2 g h ∙ r
 
-  pub ends-well : up_reads kinds.End (got g) ≡ true → up_goes 3 (encode ground_c g) ≡ true
+  pub ends-well : up_reads 3 (got g) ≡ true → up_goes 3 (encode ground_c g) ≡ true
   unfolding up_goes up_fits kind_of
-  ends-well r = end_by (eqb (length (encode ground_c g)) 0) _ (up-reads kinds.End g h ∙ r)
+  ends-well r = end_by (eqb (length (encode ground_c g)) 0) _ (up-reads 3 g h ∙ r)
 
-  pub aborts-well : up_reads kinds.Abort (got g) ≡ true → up_goes 4 (encode ground_c g) ≡ true
+  pub aborts-well : up_reads 4 (got g) ≡ true → up_goes 4 (encode ground_c g) ≡ true
   unfolding up_goes kind_of
-  aborts-well r = abort-by (eqb (length (encode ground_c g)) 0) (encode ground_c g) (up-reads kinds.Abort g h ∙ r)
+  aborts-well r = abort-by (eqb (length (encode ground_c g)) 0) (encode ground_c g) (up-reads 4 g h ∙ r)
 
 -- the octets of an answer
 pub sent_is : (s : List ℕ) → take (sent s).n (sent s).octets ≡ s

@@ -40,8 +40,6 @@ use Rattle.ground.specs.declared.call.Call.{Call}
 use Rattle.ground.specs.declared.call.Call.TheVariants.{Request, UserAbort, Elapse, StartConfirm, StartRejected, Data, EndConfirm, PeerAbort, AirAbort, Down}
 use Rattle.air_answer.specs.Events.{uplink_event, may_come, reason_in}
 use Rattle.script.specs.Entries.{goes}
-use Rattle.channel.specs.declared.Kind.{Kind}
-use Rattle.channel.specs.declared.Kind.TheVariants as kinds
 use Rattle.sending.specs.Ways.{kind_of}
 use Rattle.flight_promises.specs.Fitting.{up_reads, up_fits, down_reads}
 use Rattle.flight_promises.proofs.Goings.{Sends, nothing, after, goes_one, goes-if, stops-stay, move-goes}
@@ -160,15 +158,15 @@ unfoldable pub heard_well : Call → List ℕ → Bool
 heard_well (Request g) s = true
 heard_well UserAbort s = true
 heard_well (Elapse n) s = true
-heard_well StartConfirm s = down_reads kinds.Start (read_pdu air_c s)
+heard_well StartConfirm s = down_reads 1 (read_pdu air_c s)
 heard_well StartRejected s = true
-heard_well Data s = down_reads kinds.Data (read_pdu air_c s)
+heard_well Data s = down_reads 2 (read_pdu air_c s)
 heard_well EndConfirm s = true
 heard_well PeerAbort s = true
 heard_well AirAbort s = not (eqb (reason_of (read_pdu air_c s)) 2)
 heard_well Down s = true
 
-takes-clean : (l : Link) (kind : Kind) (x : per.Answer AirPdu) → down_reads kind x ≡ true → CleanAnswer (taken l x)
+takes-clean : (l : Link) (kind : ℕ) (x : per.Answer AirPdu) → down_reads kind x ≡ true → CleanAnswer (taken l x)
 unfolding taken down_reads
 takes-clean l kind (got a) h = passes-clean l (air_event a.kind)
 takes-clean l kind (refused n) h = absurd (no_true (sym h))
@@ -201,11 +199,11 @@ ground-clean l (Elapse n) s h =
     allowed-case CleanAnswer (good l) (leb n 86400) _ (stays-clean l 29) (stays-clean l 4)
     (λ a b. pick-case CleanAnswer (below timers (not_due n l.left)) (λ d. waits-clean l n) (λ d. aborts-clean l 4 refl refl))
 ground-clean l StartConfirm s h =
-    allowed-case CleanAnswer (good l) (li_is l.at 1) _ (stays-clean l 29) (stays-clean l 2) (λ a b. takes-clean l kinds.Start (read_pdu air_c s) h)
+    allowed-case CleanAnswer (good l) (li_is l.at 1) _ (stays-clean l 29) (stays-clean l 2) (λ a b. takes-clean l 1 (read_pdu air_c s) h)
 ground-clean l StartRejected s h = when-clean l (li_is l.at 1) 2 6 5 refl (shown up_goes)
 ground-clean l Data s h =
     pick-case CleanAnswer (good l)
-    (λ g. pick-case CleanAnswer (li_is l.at 2) (λ i. takes-clean l kinds.Data (read_pdu air_c s) h)
+    (λ g. pick-case CleanAnswer (li_is l.at 2) (λ i. takes-clean l 2 (read_pdu air_c s) h)
     (λ i. pick-case CleanAnswer (li_is l.at 3) (λ j. late-clean l) (λ j. stays-clean l 2)))
     (λ g. stays-clean l 29)
 ground-clean l EndConfirm s h = allowed-case CleanAnswer (good l) (li_is l.at 3) (over l) (stays-clean l 29) (stays-clean l 2) (λ a b. over-clean l)

@@ -5,6 +5,7 @@ use mathlib.Core.List.{List, [], ◌∷◌}
 use Prim.Native.Nat.{ℕ}
 use lib.Dec.{eqb, ltb}
 use lib.ListN.{length, take, drop}
+use borrow.Author.Tests.{eqb-true}
 use Rattle.text.specs.Letters.{ascii}
 use Rattle.text.specs.Text.{pick, same_text, word_end}
 use Rattle.text.specs.Words.{found_from}
@@ -14,17 +15,15 @@ use Rattle.pdu.specs.declared.uplink.Ground.{Ground}
 use Rattle.pdu.specs.UplinkTable.{ground_c}
 use Rattle.pdu.specs.declared.downlink.AirPdu.{AirPdu}
 use Rattle.pdu.specs.DownlinkTable.{air_c}
-use Rattle.link.proofs.Laws.{no_true}
+use Rattle.link.proofs.Laws.{no_true, pick-case}
 use Rattle.ground.specs.declared.call.Call as ground_call
 use Rattle.ground.specs.Endings as ground_ends
+use Rattle.air.specs.declared.call.Call as air_call
 use Rattle.air.specs.Endings as air_ends
 use Rattle.bench_line.specs.Lines as ground_lines
 use Rattle.air_line.specs.Lines as air_lines
 use Rattle.script.specs.Fields.{Field, garbled, holds, counts}
 use Rattle.script.specs.Lines.{Parsed, unread, makes, Script, texts_of, heard, heard_line, call_of, parsed_line}
-use Rattle.channel.specs.declared.Kind.{Kind}
-use Rattle.channel.specs.declared.Kind.TheVariants as kinds
-use Rattle.channel.specs.Channel.{ends}
 use Rattle.flight_line.specs.Users.{is_user}
 use Rattle.world.specs.GroundTurns as to_ground
 use Rattle.world.specs.AirTurns as to_air
@@ -33,34 +32,44 @@ use Rattle.flight_promises.proofs.GroundSends as ground
 use Rattle.flight_promises.proofs.AirSends as air
 
 -- on the ground
-ground-abort : (x : per.Answer AirPdu) → down_reads kinds.Abort x ≡ true → not (eqb (ground_ends.reason_of x) 2) ≡ true
+ground-abort : (x : per.Answer AirPdu) → down_reads 4 x ≡ true → not (eqb (ground_ends.reason_of x) 2) ≡ true
 unfolding down_reads ground_ends.reason_of
 ground-abort (got a) h = h
 ground-abort (refused n) h = absurd (no_true (sym h))
 
-pub ground-hears : (k : Kind) (s : List ℕ) → down_fits k s ≡ true → ground.heard_well (to_ground.call_for k) (pick (ends k) [] s) ≡ true
+ground-data : (k : ℕ) (x : per.Answer AirPdu) → down_reads k x ≡ true → down_reads 2 x ≡ true
+unfolding down_reads
+ground-data k (got a) h = refl
+ground-data k (refused n) h = h
+
+pub ground-hears : (k : ℕ) (s : List ℕ) → down_fits k s ≡ true → ground.heard_well (to_ground.call_for k) (pick (eqb k 3) [] s) ≡ true
 unfolding to_ground.call_for ground.heard_well down_fits
-ground-hears kinds.Start s f = f
-ground-hears kinds.Data s f = f
-ground-hears kinds.Nothing s f = f
-ground-hears kinds.End s f = refl
-ground-hears kinds.Abort s f = ground-abort (read_pdu air_c s) f
-ground-hears kinds.UserAbort s f = refl
+ground-hears k s f =
+    let Q : ground_call.Call → Type 0 = λ c. ground.heard_well c (pick (eqb k 3) [] s) ≡ true in
+    pick-case Q (eqb k 1) (λ e. let z = eqb-true k 1 e in rw z (rw z at f))
+    (λ n1. pick-case Q (eqb k 3) (λ e. refl)
+    (λ n3. pick-case Q (eqb k 4) (λ e. let z = eqb-true k 4 e in rw z (ground-abort (read_pdu air_c s) (rw z at f)))
+    (λ n4. pick-case Q (eqb k 5) (λ e. refl) (λ n5. rw n3 (ground-data k (read_pdu air_c s) (rw (n5, n3) at f))))))
 
 -- in the aircraft
-air-abort : (x : per.Answer Ground) → up_reads kinds.Abort x ≡ true → not (eqb (air_ends.reason_of x) 2) ≡ true
+air-abort : (x : per.Answer Ground) → up_reads 4 x ≡ true → not (eqb (air_ends.reason_of x) 2) ≡ true
 unfolding up_reads air_ends.reason_of
 air-abort (got g) h = h
 air-abort (refused n) h = absurd (no_true (sym h))
 
-pub air-hears : (k : Kind) (s : List ℕ) → up_fits k s ≡ true → air.heard_well (to_air.call_for k) s ≡ true
+air-data : (k : ℕ) (x : per.Answer Ground) → eqb k 1 ≡ false → eqb k 3 ≡ false → eqb k 4 ≡ false → up_reads k x ≡ true → up_reads 2 x ≡ true
+unfolding up_reads
+air-data k (got g) a b c h = rw (a, b, c) at h
+air-data k (refused n) a b c h = h
+
+pub air-hears : (k : ℕ) (s : List ℕ) → up_fits k s ≡ true → air.heard_well (to_air.call_for k) s ≡ true
 unfolding to_air.call_for air.heard_well up_fits
-air-hears kinds.Start s f = f
-air-hears kinds.Data s f = f
-air-hears kinds.Nothing s f = f
-air-hears kinds.End s f = f
-air-hears kinds.Abort s f = air-abort (read_pdu ground_c s) f
-air-hears kinds.UserAbort s f = refl
+air-hears k s f =
+    let Q : air_call.Call → Type 0 = λ c. air.heard_well c s ≡ true in
+    pick-case Q (eqb k 1) (λ e. let z = eqb-true k 1 e in rw z at f)
+    (λ n1. pick-case Q (eqb k 3) (λ e. let z = eqb-true k 3 e in rw z at f)
+    (λ n3. pick-case Q (eqb k 4) (λ e. let z = eqb-true k 4 e in air-abort (read_pdu ground_c s) (rw z at f))
+    (λ n4. pick-case Q (eqb k 5) (λ e. refl) (λ n5. air-data k (read_pdu ground_c s) n1 n3 n4 (rw (n5, n3) at f)))))
 
 -- the words of a user are the first of a side's: what holds of the calls that they make holds of what a user asks
 pub record Users {C : Type 0} (s : Script C) (well : Parsed C → Bool) : Type 0 where

@@ -10,7 +10,6 @@ use lib.Seq.{take_all, take-append_seam, sets-eq}
 use Rattle.text.specs.Text.{pick, both}
 use Rattle.link.proofs.Laws.{no_true, pick-case}
 use Rattle.script.specs.Entries.{goes, rest_of}
-use Rattle.channel.specs.declared.Kind.{Kind}
 use Rattle.channel.specs.declared.Letter.{Letter}
 use Rattle.channel.specs.Channel.{no_octets, letter_of, octets_in, pushed}
 use Rattle.sending.specs.Ways.{Way, kind_of, number_for, sent_as, sent_entry, sent_all}
@@ -18,12 +17,12 @@ use Rattle.flight_promises.specs.Fitting.{fits_at, letter_fits, all_fit}
 use Rattle.flight_promises.proofs.Goings.{all_go}
 
 -- a letter has the octets that were put into it
-pub octets-in : (up : Bool) (n : ℕ) (kind : Kind) (s : List ℕ) → length s ≤ 115 → octets_in (letter_of up n kind s) ≡ s
+pub octets-in : (up : Bool) (n kind : ℕ) (s : List ℕ) → length s ≤ 115 → octets_in (letter_of up n kind s) ≡ s
 unfolding letter_of no_octets
 octets-in up n kind s h =
     rw (take_all 115 s h, sets-eq s no_octets 0 (rw (length-replicate {A = ℕ}) (omega arith))) (take-append_seam s (drop (0 + length s) no_octets))
 
-letter-fits : (up : Bool) (n : ℕ) (kind : Kind) (s : List ℕ) → length s ≤ 115 → fits_at up kind s ≡ true → letter_fits (letter_of up n kind s) ≡ true
+letter-fits : (up : Bool) (n kind : ℕ) (s : List ℕ) → length s ≤ 115 → fits_at up kind s ≡ true → letter_fits (letter_of up n kind s) ≡ true
 unfolding letter_fits letter_of
 letter-fits up n kind s h f = ap (fits_at up kind) (octets-in up n kind s h) ∙ f
 

@@ -5,8 +5,6 @@ use Rattle.text.specs.Text.{pick, both}
 use Rattle.link.specs.Names.{ABORT-REQUEST}
 use Rattle.script.specs.Entries.{goes, rest_of}
 use Rattle.script.specs.Trace.{bumped}
-use Rattle.channel.specs.declared.Kind.{Kind}
-use Rattle.channel.specs.declared.Kind.TheVariants.{Start, Data, End, Abort, UserAbort}
 use Rattle.channel.specs.declared.Letter.{Letter}
 use Rattle.channel.specs.Channel.{letter_of, held_in, pushed}
 use Rattle.sending.specs.declared.Way as code
@@ -22,15 +20,18 @@ way ls n = record { under = ls; number = n }
 abbrev pub way_of : code.Way → Way
 way_of w = way (held_in w.held) w.number
 
--- entries for the dialogue service: the kinds of letters are these, data and an abort; the user's abort has no PDU
+-- the kinds of letters are the entries: start, data, end, abort; the user's abort has no PDU
 abbrev pub START : ℕ
 START = 1
 
 abbrev pub END : ℕ
 END = 3
 
-unfoldable pub kind_of : ℕ → List ℕ → Kind
-kind_of c s = pick (eqb c START) Start (pick (eqb c END) End (pick (eqb c ABORT-REQUEST) (pick (eqb (length s) 0) UserAbort Abort) Data))
+abbrev pub USER-ABORT : ℕ
+USER-ABORT = 5
+
+unfoldable pub kind_of : ℕ → List ℕ → ℕ
+kind_of c s = pick (both (eqb c ABORT-REQUEST) (eqb (length s) 0)) USER-ABORT c
 
 -- "start requests are numbered from 1 as they are sent, the ground sends with the last number"; the last number there is stays
 unfoldable pub number_for : Bool → ℕ → ℕ → ℕ

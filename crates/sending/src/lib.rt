@@ -4,17 +4,19 @@
 ghost use Rattle.std.specs.Prelude.{◌≡◌, length, take};
 ghost use Rattle.sending.specs.Ways.{way_of, kind_of, number_for, sent_as, sent_entry, sent_all, sent_said};
 
-use channel::{Channel, Kind, push, write_letter};
+use channel::{Channel, push, write_letter};
 use link::actions::*;
 use link::acts::Acts;
 use script::answer::rest_of;
 use script::trace::bump;
 use text::least;
 
-// Entries for the dialogue service that both sides name otherwise: a start, which is the ground's request and the aircraft's response, and an end.
-const START: u8 = 1;
+// Kinds of letters are entries of an action list: 1, of which the ground's is a start request, to 4; and beside them an abort without a PDU, the user's.
+pub const START: u8 = 1;
 
-const END: u8 = 3;
+pub const END: u8 = 3;
+
+pub const USER_ABORT: u8 = 5;
 
 // What is under way, and the number of the dialogue of which more is sent.
 #[derive(Clone, Copy, Drop)]
@@ -23,22 +25,14 @@ pub struct Way {
     pub number: u64,
 }
 
-// An abort without a PDU is the user's.
 #[tactic(auto, unfolding(crate::specs::Ways::kind_of))]
-fn kind_of(c: u8, octets: &[u8]) -> Kind
+fn kind_of(c: u8, octets: &[u8]) -> u8
     ensures { result ≡ kind_of c octets.now }
 {
-    match c {
-        START => Kind::Start,
-        END => Kind::End,
-        ABORT_REQUEST => {
-            if octets.len() == 0 {
-                Kind::UserAbort
-            } else {
-                Kind::Abort
-            }
-        }
-        _ => Kind::Data,
+    if c == ABORT_REQUEST && octets.len() == 0 {
+        USER_ABORT
+    } else {
+        c
     }
 }
 

@@ -4,11 +4,7 @@ use Rattle.refusals.specs.Refusals.{SCRIPT-LINE}
 use Rattle.text.specs.Text.{pick, both}
 use Rattle.link.specs.Names.{LI, IDLE}
 use Rattle.pdu_parts.specs.declared.lists.Listed.{Listed}
-use Rattle.channel.specs.declared.Kind.{Kind}
-use Rattle.channel.specs.declared.Kind.TheVariants.{Nothing, Start, End, Abort, UserAbort}
-use Rattle.channel.specs.declared.Kind.TheVariants as kinds
 use Rattle.channel.specs.declared.Letter.{Letter}
-use Rattle.channel.specs.Channel.{starts}
 use Rattle.air.specs.Runs.{answered}
 use Rattle.air.specs.declared.call.Call.{Call}
 use Rattle.air.specs.declared.call.Call.TheVariants.{StartInd, Data, EndInd, PeerAbort, GroundAbort}
@@ -16,7 +12,7 @@ use Rattle.air_answer.specs.Answers.{refusal}
 use Rattle.air_answer.specs.declared.answer.Answer.{Answer}
 use Rattle.air_answer.specs.declared.answer.Said.{Said}
 use Rattle.air_bench.specs.Replies.{ready_setup}
-use Rattle.sending.specs.Ways.{Way, way, sent_said}
+use Rattle.sending.specs.Ways.{Way, way, sent_said, START, END, USER-ABORT}
 use Rattle.world.specs.World.{World, MOST, world_of}
 use Rattle.world.specs.declared.air_turn.AirTurn.{AirTurn}
 
@@ -55,13 +51,9 @@ turned w number c list s = turn_with w number (answered w.air.link c list s)
 
 -- "A start request is always heard. Anything else is heard by an end whose LI is not IDLE and whose number it has (.. the aircraft's the one it sends with)"
 unfoldable pub hears : World → Letter → Bool
-hears w l = pick (starts l.kind) true (both (not (eqb (get_or w.air.link.at LI 0) IDLE)) (eqb l.number w.taken))
+hears w l = pick (eqb l.kind START) true (both (not (eqb (get_or w.air.link.at LI 0) IDLE)) (eqb l.number w.taken))
 
 -- "each to the other end as the primitive it is"
-unfoldable pub call_for : Kind → Call
-call_for Nothing = Data
-call_for Start = StartInd
-call_for kinds.Data = Data
-call_for End = EndInd
-call_for Abort = GroundAbort
-call_for UserAbort = PeerAbort
+unfoldable pub call_for : ℕ → Call
+call_for k =
+    pick (eqb k START) StartInd (pick (eqb k END) EndInd (pick (eqb k 4) GroundAbort (pick (eqb k USER-ABORT) PeerAbort Data)))

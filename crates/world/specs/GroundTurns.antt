@@ -3,9 +3,6 @@ use Rattle.std.specs.Prelude.{Bool, true, not, List, ℕ, eqb, ltb, length, take
 use Rattle.refusals.specs.Refusals.{SCRIPT-LINE}
 use Rattle.text.specs.Text.{pick, both}
 use Rattle.link.specs.Names.{LI, IDLE}
-use Rattle.channel.specs.declared.Kind.{Kind}
-use Rattle.channel.specs.declared.Kind.TheVariants.{Nothing, Start, End, Abort, UserAbort}
-use Rattle.channel.specs.declared.Kind.TheVariants as kinds
 use Rattle.channel.specs.declared.Letter.{Letter}
 use Rattle.ground.specs.Runs.{answered}
 use Rattle.ground.specs.declared.call.Call.{Call}
@@ -14,7 +11,7 @@ use Rattle.ground_answer.specs.Answers.{refusal}
 use Rattle.ground_answer.specs.declared.answer.Answer.{Answer}
 use Rattle.ground_answer.specs.declared.answer.Said.{Said}
 use Rattle.bench.specs.Replies.{ready_setup}
-use Rattle.sending.specs.Ways.{Way, way, sent_said}
+use Rattle.sending.specs.Ways.{Way, way, sent_said, START, END, USER-ABORT}
 use Rattle.world.specs.World.{World, MOST, world_of}
 use Rattle.world.specs.declared.ground_turn.GroundTurn.{GroundTurn}
 
@@ -48,10 +45,6 @@ unfoldable pub hears : World → Letter → Bool
 hears w l = both (not (eqb (get_or w.ground_end.link.at LI 0) IDLE)) (eqb l.number w.last)
 
 -- "each to the other end as the primitive it is"
-unfoldable pub call_for : Kind → Call
-call_for Nothing = Data
-call_for Start = StartConfirm
-call_for kinds.Data = Data
-call_for End = EndConfirm
-call_for Abort = AirAbort
-call_for UserAbort = PeerAbort
+unfoldable pub call_for : ℕ → Call
+call_for k =
+    pick (eqb k START) StartConfirm (pick (eqb k END) EndConfirm (pick (eqb k 4) AirAbort (pick (eqb k USER-ABORT) PeerAbort Data)))

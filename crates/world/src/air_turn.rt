@@ -7,11 +7,12 @@ use crate::state::{MOST, World};
 use air::call::{Call, answer};
 use air_answer::answer::{Said, refuse};
 use air_bench::reply::Setup;
-use channel::{Kind, Letter, count};
+use channel::{Letter, count};
+use link::actions::ABORT_REQUEST;
 use link::moves::IDLE;
 use pdu_parts::lists::Listed;
 use refusals::SCRIPT_LINE;
-use sending::{Way, send_said};
+use sending::{END, START, USER_ABORT, Way, send_said};
 
 // The world after the call, and what the aircraft said.
 #[derive(Drop)]
@@ -69,19 +70,19 @@ pub fn turn_air(w: World, number: u64, call: Call, list: Listed, octets: &[u8]) 
 pub fn is_heard(w: World, l: Letter) -> bool
     ensures { result ≡ hears (world_of w) l }
 {
-    l.kind == Kind::Start || (w.air.link.at[4] != IDLE && l.number == w.taken)
+    l.kind == START || (w.air.link.at[4] != IDLE && l.number == w.taken)
 }
 
 // What the aircraft hears of a kind of letter.
 #[tactic(auto, unfolding(crate::specs::AirTurns::call_for))]
-pub fn call_for(kind: Kind) -> Call
+pub fn call_for(kind: u8) -> Call
     ensures { result ≡ call_for kind }
 {
     match kind {
-        Kind::Start => Call::StartInd,
-        Kind::End => Call::EndInd,
-        Kind::Abort => Call::GroundAbort,
-        Kind::UserAbort => Call::PeerAbort,
-        Kind::Data | Kind::Nothing => Call::Data,
+        START => Call::StartInd,
+        END => Call::EndInd,
+        ABORT_REQUEST => Call::GroundAbort,
+        USER_ABORT => Call::PeerAbort,
+        _ => Call::Data,
     }
 }

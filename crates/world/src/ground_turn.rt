@@ -5,12 +5,13 @@ ghost use Rattle.world.specs.GroundTurns.{turned, turn_of, hears, call_for};
 
 use crate::state::{MOST, World};
 use bench::reply::Setup;
-use channel::{Kind, Letter, count};
+use channel::{Letter, count};
 use ground::call::{Call, answer};
 use ground_answer::answer::{Said, refuse};
+use link::actions::ABORT_REQUEST;
 use link::moves::IDLE;
 use refusals::SCRIPT_LINE;
-use sending::{Way, send_said};
+use sending::{END, START, USER_ABORT, Way, send_said};
 
 // The world after the call, and what the ground said.
 #[derive(Drop)]
@@ -65,14 +66,14 @@ pub fn is_heard(w: World, l: Letter) -> bool
 
 // What the ground hears of a kind of letter.
 #[tactic(auto, unfolding(crate::specs::GroundTurns::call_for))]
-pub fn call_for(kind: Kind) -> Call
+pub fn call_for(kind: u8) -> Call
     ensures { result ≡ call_for kind }
 {
     match kind {
-        Kind::Start => Call::StartConfirm,
-        Kind::End => Call::EndConfirm,
-        Kind::Abort => Call::AirAbort,
-        Kind::UserAbort => Call::PeerAbort,
-        Kind::Data | Kind::Nothing => Call::Data,
+        START => Call::StartConfirm,
+        END => Call::EndConfirm,
+        ABORT_REQUEST => Call::AirAbort,
+        USER_ABORT => Call::PeerAbort,
+        _ => Call::Data,
     }
 }
