@@ -83,6 +83,55 @@ fn write_fields(p: Pen, out: &mut [u8; 128], kind: Air, list: Listed) -> Pen
     }
 }
 
+// The kinds of a PDU, each read by a function of its own: the reader of all would make room for every kind's value at every call.
+fn read_demand(c: Cursor, s: &[u8]) -> Read<AirPdu>
+    ensures { Reads (air_alt 1).codec s.now c result.value result.next }
+{
+    bare(AckedReport::read(c.extension(s), s), Air::Demand)
+}
+
+fn read_emergency(c: Cursor, s: &[u8]) -> Read<AirPdu>
+    ensures { Reads (air_alt 2).codec s.now c result.value result.next }
+{
+    bare(AckedEmergency::read(c.extension(s), s), Air::Emergency)
+}
+
+fn read_event(c: Cursor, s: &[u8]) -> Read<AirPdu>
+    ensures { Reads (air_alt 3).codec s.now c result.value result.next }
+{
+    bare(EventReport::read(c.extension(s), s), Air::Event)
+}
+
+fn read_refused(c: Cursor, s: &[u8]) -> Read<AirPdu>
+    ensures { Reads (air_alt 4).codec s.now c result.value result.next }
+{
+    map(
+        NegativeAck::read(c, s),
+        |(ack, list)| AirPdu {
+            kind: Air::Negative(ack),
+            list,
+        },
+    )
+}
+
+fn read_unmet(c: Cursor, s: &[u8]) -> Read<AirPdu>
+    ensures { Reads (air_alt 5).codec s.now c result.value result.next }
+{
+    map(
+        Noncompliance::read(c.extension(s), s),
+        |(kind, list)| AirPdu {
+            kind: Air::Noncompliance(kind),
+            list,
+        },
+    )
+}
+
+fn read_periodic(c: Cursor, s: &[u8]) -> Read<AirPdu>
+    ensures { Reads (air_alt 6).codec s.now c result.value result.next }
+{
+    bare(AckedReport::read(c.extension(s), s), Air::Periodic)
+}
+
 impl Part for AirPdu {
     type Value = AirPdu;
 
@@ -99,24 +148,12 @@ impl Part for AirPdu {
                 },
                 next: n,
             },
-            1 => bare(AckedReport::read(n.extension(s), s), Air::Demand),
-            2 => bare(AckedEmergency::read(n.extension(s), s), Air::Emergency),
-            3 => bare(EventReport::read(n.extension(s), s), Air::Event),
-            4 => map(
-                NegativeAck::read(n, s),
-                |(ack, list)| AirPdu {
-                    kind: Air::Negative(ack),
-                    list,
-                },
-            ),
-            5 => map(
-                Noncompliance::read(n.extension(s), s),
-                |(kind, list)| AirPdu {
-                    kind: Air::Noncompliance(kind),
-                    list,
-                },
-            ),
-            6 => bare(AckedReport::read(n.extension(s), s), Air::Periodic),
+            1 => read_demand(n, s),
+            2 => read_emergency(n, s),
+            3 => read_event(n, s),
+            4 => read_refused(n, s),
+            5 => read_unmet(n, s),
+            6 => read_periodic(n, s),
             7 => bare(n.extension(s).num(s, 0, 7), Air::Positive),
             _ => bare(n.extension(s).num(s, 0, 7), Air::Abort),
         }

@@ -4,7 +4,7 @@ use native.Mathlib.Omega.{arith}
 use Rattle.per.proofs.Compose.{after-ext, in-alt, in-choice, nothing, num-most, climb}
 use mathlib.Core.Path.{◌≡◌}
 use Rattle.std.proofs.Common.{rules}
-use Rattle.pdu.specs.declared.downlink.Air.TheVariants.{Demand, Emergency, Event, Negative, Noncompliance, Periodic, Positive, Abort}
+use Rattle.pdu.specs.declared.downlink.Air.TheVariants.{Positive, Abort}
 use Rattle.pdu.specs.DownlinkTable.{bare_air, air_alt, air_c}
 use Rattle.pdu.proofs.downlink.AirPduPart.read.Goals as goal
 
@@ -13,32 +13,32 @@ unfolding air_c air_alt
 returns-in-0 c = rw c.no_list.ensures (after-ext c.extension.ensures (in-choice _ _ _ 0 c.in-0.is c.index-i.ensures (in-alt _ _ _ _ _ _ nothing)))
 
 pub returns-in-1 : goal.returns-in-1
-unfolding air_c air_alt
-returns-in-1 c = after-ext c.extension.ensures (in-choice _ _ _ 1 c.in-1.is c.index-i.ensures (let v : c.bare.result.value ≡ bare_air (Demand c.read.result.value) = search rules in rw (v, c.bare.ensures.next) (in-alt _ _ _ _ _ _ (after-ext c.extension-in-1.ensures c.read.ensures))))
+unfolding air_c
+returns-in-1 c = after-ext c.extension.ensures (in-choice _ _ _ 1 c.in-1.is c.index-i.ensures c.read_demand.ensures)
 
 pub returns-in-2 : goal.returns-in-2
-unfolding air_c air_alt
-returns-in-2 c = after-ext c.extension.ensures (in-choice _ _ _ 2 c.in-2.is c.index-i.ensures (let v : c.bare-in-2.result.value ≡ bare_air (Emergency c.read-in-2.result.value) = search rules in rw (v, c.bare-in-2.ensures.next) (in-alt _ _ _ _ _ _ (after-ext c.extension-in-2.ensures c.read-in-2.ensures))))
+unfolding air_c
+returns-in-2 c = after-ext c.extension.ensures (in-choice _ _ _ 2 c.in-2.is c.index-i.ensures c.read_emergency.ensures)
 
 pub returns-in-3 : goal.returns-in-3
-unfolding air_c air_alt
-returns-in-3 c = after-ext c.extension.ensures (in-choice _ _ _ 3 c.in-3.is c.index-i.ensures (let v : c.bare-in-3.result.value ≡ bare_air (Event c.read-in-3.result.value) = search rules in rw (v, c.bare-in-3.ensures.next) (in-alt _ _ _ _ _ _ (after-ext c.extension-in-3.ensures c.read-in-3.ensures))))
+unfolding air_c
+returns-in-3 c = after-ext c.extension.ensures (in-choice _ _ _ 3 c.in-3.is c.index-i.ensures c.read_event.ensures)
 
 pub returns-in-4 : goal.returns-in-4
-unfolding air_c air_alt
-returns-in-4 c = after-ext c.extension.ensures (in-choice _ _ _ 4 c.in-4.is c.index-i.ensures (let v : c.map.result.value ≡ record { kind = Negative c.read-in-4.result.value.0; list = c.read-in-4.result.value.1 } = search rules in rw (v, c.map.ensures.next) (in-alt _ _ _ _ _ _ c.read-in-4.ensures)))
+unfolding air_c
+returns-in-4 c = after-ext c.extension.ensures (in-choice _ _ _ 4 c.in-4.is c.index-i.ensures c.read_refused.ensures)
 
 pub returns-in-5 : goal.returns-in-5
-unfolding air_c air_alt
-returns-in-5 c = after-ext c.extension.ensures (in-choice _ _ _ 5 c.in-5.is c.index-i.ensures (let v : c.map-in-5.result.value ≡ record { kind = Noncompliance c.read-in-5.result.value.0; list = c.read-in-5.result.value.1 } = search rules in rw (v, c.map-in-5.ensures.next) (in-alt _ _ _ _ _ _ (after-ext c.extension-in-5.ensures c.read-in-5.ensures))))
+unfolding air_c
+returns-in-5 c = after-ext c.extension.ensures (in-choice _ _ _ 5 c.in-5.is c.index-i.ensures c.read_unmet.ensures)
 
 pub returns-in-6 : goal.returns-in-6
-unfolding air_c air_alt
-returns-in-6 c = after-ext c.extension.ensures (in-choice _ _ _ 6 c.in-6.is c.index-i.ensures (let v : c.bare-in-6.result.value ≡ bare_air (Periodic c.read-in-6.result.value) = search rules in rw (v, c.bare-in-6.ensures.next) (in-alt _ _ _ _ _ _ (after-ext c.extension-in-6.ensures c.read-in-6.ensures))))
+unfolding air_c
+returns-in-6 c = after-ext c.extension.ensures (in-choice _ _ _ 6 c.in-6.is c.index-i.ensures c.read_periodic.ensures)
 
 pub returns-in-7 : goal.returns-in-7
 unfolding air_c air_alt
-returns-in-7 c = after-ext c.extension.ensures (in-choice _ _ _ 7 c.in-7.is c.index-i.ensures (let v : c.bare-in-7.result.value ≡ bare_air (Positive c.num.result.value) = search rules in rw (v, c.bare-in-7.ensures.next) (in-alt _ _ _ _ _ _ (after-ext c.extension-in-7.ensures c.num.ensures))))
+returns-in-7 c = after-ext c.extension.ensures (in-choice _ _ _ 7 c.in-7.is c.index-i.ensures (let v : c.bare.result.value ≡ bare_air (Positive c.num.result.value) = search rules in rw (v, c.bare.ensures.next) (in-alt _ _ _ _ _ _ (after-ext c.extension-in-7.ensures c.num.ensures))))
 
 pub returns-in_default : goal.returns-in_default
 unfolding air_c air_alt
