@@ -36,7 +36,7 @@ pub struct AirPdu {
 }
 
 // A PDU without a list, of the kind that `make` makes of what was read.
-fn bare<T, F: FnOnce(T) -> Air>(read: Read<T>, make: F) -> Read<AirPdu>
+fn plain<T, F: FnOnce(T) -> Air>(read: Read<T>, make: F) -> Read<AirPdu>
     requires { F.pre make read.value }
     ensures kind { F.post make read.value result.value.kind }
     ensures list { result.value.list ≡ no_list }
@@ -87,19 +87,19 @@ fn write_fields(p: Pen, out: &mut [u8; 128], kind: Air, list: Listed) -> Pen
 fn read_demand(c: Cursor, s: &[u8]) -> Read<AirPdu>
     ensures { Reads (air_alt 1).codec s.now c result.value result.next }
 {
-    bare(AckedReport::read(c.extension(s), s), Air::Demand)
+    plain(AckedReport::read(c.extension(s), s), Air::Demand)
 }
 
 fn read_emergency(c: Cursor, s: &[u8]) -> Read<AirPdu>
     ensures { Reads (air_alt 2).codec s.now c result.value result.next }
 {
-    bare(AckedEmergency::read(c.extension(s), s), Air::Emergency)
+    plain(AckedEmergency::read(c.extension(s), s), Air::Emergency)
 }
 
 fn read_event(c: Cursor, s: &[u8]) -> Read<AirPdu>
     ensures { Reads (air_alt 3).codec s.now c result.value result.next }
 {
-    bare(EventReport::read(c.extension(s), s), Air::Event)
+    plain(EventReport::read(c.extension(s), s), Air::Event)
 }
 
 fn read_refused(c: Cursor, s: &[u8]) -> Read<AirPdu>
@@ -129,7 +129,7 @@ fn read_unmet(c: Cursor, s: &[u8]) -> Read<AirPdu>
 fn read_periodic(c: Cursor, s: &[u8]) -> Read<AirPdu>
     ensures { Reads (air_alt 6).codec s.now c result.value result.next }
 {
-    bare(AckedReport::read(c.extension(s), s), Air::Periodic)
+    plain(AckedReport::read(c.extension(s), s), Air::Periodic)
 }
 
 impl Part for AirPdu {
@@ -154,8 +154,8 @@ impl Part for AirPdu {
             4 => read_refused(n, s),
             5 => read_unmet(n, s),
             6 => read_periodic(n, s),
-            7 => bare(n.extension(s).num(s, 0, 7), Air::Positive),
-            _ => bare(n.extension(s).num(s, 0, 7), Air::Abort),
+            7 => plain(n.extension(s).num(s, 0, 7), Air::Positive),
+            _ => plain(n.extension(s).num(s, 0, 7), Air::Abort),
         }
     }
 

@@ -7,4 +7,4 @@ use Rattle.pdu.proofs.downlink.read_periodic.Goals as goal
 
 pub returns : goal.returns
 unfolding air_alt
-returns c = let v : c.bare.result.value ≡ bare_air (Periodic c.read.result.value) = search rules in rw (v, c.bare.ensures.next) (in-alt _ _ _ _ _ _ (after-ext c.extension.ensures c.read.ensures))
+returns c = let v : c.plain.result.value ≡ bare_air (Periodic c.read.result.value) = search rules in rw (v, c.plain.ensures.next) (in-alt _ _ _ _ _ _ (after-ext c.extension.ensures c.read.ensures))

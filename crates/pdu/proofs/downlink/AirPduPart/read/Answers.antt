@@ -38,7 +38,7 @@ returns-in-6 c = after-ext c.extension.ensures (in-choice _ _ _ 6 c.in-6.is c.in
 
 pub returns-in-7 : goal.returns-in-7
 unfolding air_c air_alt
-returns-in-7 c = after-ext c.extension.ensures (in-choice _ _ _ 7 c.in-7.is c.index-i.ensures (let v : c.bare.result.value ≡ bare_air (Positive c.num.result.value) = search rules in rw (v, c.bare.ensures.next) (in-alt _ _ _ _ _ _ (after-ext c.extension-in-7.ensures c.num.ensures))))
+returns-in-7 c = after-ext c.extension.ensures (in-choice _ _ _ 7 c.in-7.is c.index-i.ensures (let v : c.plain.result.value ≡ bare_air (Positive c.num.result.value) = search rules in rw (v, c.plain.ensures.next) (in-alt _ _ _ _ _ _ (after-ext c.extension-in-7.ensures c.num.ensures))))
 
 pub returns-in_default : goal.returns-in_default
 unfolding air_c air_alt
@@ -46,4 +46,4 @@ returns-in_default c = let i = c.index-i in
     let k = i.result.value in
     let r = c.in_default.in_default-own.rest in
     let h : 8 ≤ k = climb k 7 (climb k 6 (climb k 5 (climb k 4 (climb k 3 (climb k 2 (climb k 1 (climb k 0 (omega arith) r.0.0.0.0.0.0.0.1) r.0.0.0.0.0.0.1) r.0.0.0.0.0.1) r.0.0.0.0.1) r.0.0.0.1) r.0.0.1) r.0.1) r.1 in
-    after-ext c.extension.ensures (in-choice _ _ _ 8 (le_antisymm (num-most 0 8 i.ensures) h) i.ensures (let v : c.bare-in_default.result.value ≡ bare_air (Abort c.num-in_default.result.value) = search rules in rw (v, c.bare-in_default.ensures.next) (in-alt _ _ _ _ _ _ (after-ext c.extension-in_default.ensures c.num-in_default.ensures))))
+    after-ext c.extension.ensures (in-choice _ _ _ 8 (le_antisymm (num-most 0 8 i.ensures) h) i.ensures (let v : c.plain-in_default.result.value ≡ bare_air (Abort c.num-in_default.result.value) = search rules in rw (v, c.plain-in_default.ensures.next) (in-alt _ _ _ _ _ _ (after-ext c.extension-in_default.ensures c.num-in_default.ensures))))
