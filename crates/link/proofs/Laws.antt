@@ -6,6 +6,7 @@ use mathlib.Core.List.{List, [], ◌∷◌, ◌++◌, map, append-nil, append_as
 use Prim.Native.Nat.{ℕ, zero, suc, ◌+◌, ◌-◌, ◌<◌, ◌≤◌}
 use native.Mathlib.Omega.{arith}
 use native.Mathlib.Nat.{not-suc-le-zero, le_of_suc-le-suc, eq-or-lt_of_le, le_refl}
+use native.Mathlib.Numerals.{add-one}
 use borrow.Author.Tests.{lt-ltb}
 use lib.Seq.{set-append_seam}
 use lib.Dec.{T, leb, ltb, leb→le, ltb→lt}
@@ -43,6 +44,14 @@ below_at (suc n) f t k h =
     cases (eq-or-lt_of_le (le_of_suc-le-suc h))
     (λ e. subst (λ (m : ℕ). T (f m)) (sym e) (both_left (f n) (below n f) t))
     (λ l. below_at n f (both_right (f n) (below n f) t) k l)
+
+-- the test passes below i and at i: it passes below i + 1
+pub below_more : (f : ℕ → Bool) (i : ℕ) → below i f ≡ true → f i ≡ true → below (i + 1) f ≡ true
+below_more f i p q = rw (add-one, q, p)
+
+-- what held of the test at the loop's end
+pub at-end : (f : ℕ → Bool) (i n : ℕ) → i ≡ n → below i f ≡ true → true ≡ below n f
+at-end f i n e h = sym (subst (λ (k : ℕ). below k f ≡ true) e h)
 
 -- it fails at one below n: it fails
 pub below_fails : (f : ℕ → Bool) (n i : ℕ) → i < n → f i ≡ false → below n f ≡ false

@@ -1,15 +1,22 @@
-use Rattle.std.proofs.Common.{rules, refl, ◌∙◌}
-use borrow.Author.Tests.{tests}
-use Rattle.std.proofs.lemmas.Iterator.{YieldsList-from_range}
-use Rattle.std.proofs.lemmas.Iterator.Search.{all_from_yields_List}
-use Rattle.link.proofs.Laws.{below_range}
-use Rattle.link.specs.Names.{timers}
+use mathlib.Core.Path.{refl, sym}
+use borrow.Author.Tests.{not-true, not-false}
+use native.Mathlib.Omega.{arith}
+use Rattle.link.proofs.Laws.{below_more, below_fails, at-end}
 use Rattle.link.specs.Watch.{timer_good}
+use Rattle.link.specs.Names.{timers}
+use Rattle.std.proofs.Common.{rules}
 use Rattle.link.proofs.watch.timers_ok.Goals as goal
 
-pub returns : goal.returns
+pub loop-t-init : goal.loop-t-init
+loop-t-init c = refl
+
+pub returns-then-not-timer_ok : goal.returns-then-not-timer_ok
 unfolding timer_good
-returns c =
-    let good = timer_good c.args.w c.args.at c.args.left c.args.most in
-    all_from_yields_List good _ _ _ c.all.ensures.ran (YieldsList-from_range 0 timers timers refl refl) (λ x b q k. search (rules, tests))
-    ∙ below_range good timers
+returns-then-not-timer_ok c = sym (below_fails (timer_good c.args.w c.args.at c.args.left c.args.most) timers c.loop-t.t (search rules) (rw (← c.watched.ensures, ← c.timer_ok.ensures) (not-true _ c.if-not-timer_ok.true-raw)))
+
+pub loop-t-preserved : goal.loop-t-preserved
+unfolding timer_good
+loop-t-preserved c = below_more (timer_good c.args.w c.args.at c.args.left c.args.most) c.loop-t.t c.loop-t.invariant (rw (← c.watched.ensures, ← c.timer_ok.ensures) (not-false _ c.if-not-timer_ok.false-raw))
+
+pub returns : goal.returns
+returns c = at-end (timer_good c.args.w c.args.at c.args.left c.args.most) c.loop-t.t timers (omega arith) c.loop-t.invariant
