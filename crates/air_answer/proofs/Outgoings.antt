@@ -1,10 +1,12 @@
 -- An aircraft PDU has room in 115 octets, so writing it there gives its octets or the refusal of its fields. Assumes nothing.
 use Prim.Native.Nat.{ℕ, ◌≤◌}
-use mathlib.Core.Path.{◌≡◌, sym, ap}
+use mathlib.Core.Path.{◌≡◌, refl, sym, ap}
 use mathlib.Core.List.{List, []}
 use native.Mathlib.Omega.{arith}
 use lib.ListN.{length, replicate}
 use Rattle.per.specs.Pdu.{encode}
+use Rattle.per.specs.Places.{Octets, Refused}
+use Rattle.per.specs.Writing.{write_pdu}
 use Rattle.per.proofs.RoundTrip.{length-encode}
 use Rattle.std.specs.Prelude.{Result, Ok, Err}
 use Rattle.refusals.specs.declared.Refusal.{Refusal}
@@ -34,6 +36,14 @@ unfolding outgoing letter_of
 letter-stays a n e s =
     let r = room-stays air_c 115 a (has_room a) n e s in
     rw r.fields (λ i. record { refusal = r.is i; sent = sent [] })
+
+-- as a search takes them
+pub outgoing_octets : (a : AirPdu) (n : ℕ) → Octets n ≡ (write_pdu air_c a (replicate 115 0)).answer
+    → outgoing a ≡ record { refusal = 0; sent = record { n = n; octets = (write_pdu air_c a (replicate 115 0)).octets } }
+outgoing_octets a n e = sym (letter-goes a n refl (record { answer_is = e; octets_are = refl }))
+
+pub outgoing_refused : (a : AirPdu) (r : Refusal) → Refused (number r) ≡ (write_pdu air_c a (replicate 115 0)).answer → outgoing a ≡ record { refusal = number r; sent = sent [] }
+outgoing_refused a r e = sym (letter-stays a r refl (record { answer_is = e; octets_are = refl }))
 
 -- nothing is lost where an answer is looked at as a letter
 pub letter-alone : (x y : Result Sent Refusal) → letter x ≡ letter y → x ≡ y

@@ -1,6 +1,8 @@
 -- A ground PDU has room in the octets of an answer, so writing it there gives its octets or the refusal of its fields. Assumes nothing.
-use Rattle.std.proofs.Common.{◌≡◌, sym, ap, ℕ, ◌≤◌, List, [], length, replicate, arith}
+use Rattle.std.proofs.Common.{◌≡◌, refl, sym, ap, ℕ, ◌≤◌, List, [], length, replicate, arith}
 use Rattle.per.specs.Pdu.{encode}
+use Rattle.per.specs.Places.{Octets, Refused}
+use Rattle.per.specs.Writing.{write_pdu}
 use Rattle.per.proofs.RoundTrip.{length-encode}
 use Rattle.std.specs.Prelude.{Result, Ok, Err}
 use Rattle.refusals.specs.declared.Refusal.{Refusal}
@@ -30,6 +32,14 @@ unfolding outgoing letter_of
 letter-stays g n e s =
     let r = room-stays ground_c SENT-MOST g (has_room g) n e s in
     rw r.fields (λ i. record { refusal = r.is i; sent = sent [] })
+
+-- as a search takes them
+pub outgoing_octets : (g : Ground) (n : ℕ) → Octets n ≡ (write_pdu ground_c g (replicate SENT-MOST 0)).answer
+    → outgoing g ≡ record { refusal = 0; sent = record { n = n; octets = (write_pdu ground_c g (replicate SENT-MOST 0)).octets } }
+outgoing_octets g n e = sym (letter-goes g n refl (record { answer_is = e; octets_are = refl }))
+
+pub outgoing_refused : (g : Ground) (r : Refusal) → Refused (number r) ≡ (write_pdu ground_c g (replicate SENT-MOST 0)).answer → outgoing g ≡ record { refusal = number r; sent = sent [] }
+outgoing_refused g r e = sym (letter-stays g r refl (record { answer_is = e; octets_are = refl }))
 
 -- nothing is lost where an answer is looked at as a letter
 pub letter-alone : (x y : Result Sent Refusal) → letter x ≡ letter y → x ≡ y

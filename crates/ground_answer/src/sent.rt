@@ -27,6 +27,7 @@ pub fn nothing() -> Sent
 }
 
 // The octets that go, or why the PDU's fields are refused.
+#[tactic(auto, using(crate::proofs::Outgoings::outgoing_octets, crate::proofs::Outgoings::outgoing_refused))]
 pub fn write(g: Ground) -> Result<Sent, Refusal>
     ensures { letter result ≡ outgoing g }
 {
