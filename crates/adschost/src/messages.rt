@@ -48,7 +48,7 @@ pub fn adsc_read_ground(octets: &[u8], numbers: &mut [u32]) -> u8
             copy_into(&flat_ground(g), numbers);
             0
         }
-        Err(refusal) => refusal.number(),
+        Err(unread) => unread.number(),
     }
 }
 
