@@ -65,6 +65,7 @@ fn accept(b: Setup, a: Answer, came: usize) -> Stepped
 }
 
 // What a record has for a word that may be followed so. A field that its call does not use is to be empty.
+#[tactic(auto, unfolding(crate::specs::Steps::field_in, script::specs::Fields::held_in))]
 pub fn hold_record(shape: u8, seconds: u32, octets: &[u8]) -> Held
     ensures { held_in result octets.now ≡ field_in shape seconds octets.now }
 {
