@@ -95,6 +95,7 @@ fn put_request(g: Ground, octets: &mut [u8]) -> usize
 }
 
 // The data of a call, beside which n octets stand, come to the front of them. A request is one that may be written.
+#[tactic(auto, unfolding(log_play::specs::Records::record_of))]
 fn put_data(call: Call, n: usize, octets: &mut [u8]) -> usize
     requires { ((g : Ground) → call ≡ Request g → ground_c.chk g ≡ 0) × (2048 ≤ length octets.old) }
     ensures { take result octets.new ≡ (record_of call (take n octets.old)).octets }
