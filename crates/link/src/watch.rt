@@ -50,7 +50,7 @@ fn timer_ok(run: bool, most: u32, left: u32) -> bool
 pub fn timers_ok(w: Watch, at: [u8; 5], left: [u32; TIMERS], most: [u32; TIMERS]) -> bool
     ensures { result ≡ below timers (timer_good w at left most) }
 {
-    // With `all` a call in a program looks each timer up in the table, in three times as many instructions.
+    // With `all` a call in a program looks each timer up in the table, and `is_good` takes more than twice as many instructions.
     for t in 0..TIMERS {
         if !timer_ok(watched(w, t, at), most[t], left[t]) {
             return false;
