@@ -2,6 +2,7 @@ pub mod UplinkBounds
 pub mod UplinkNorms
 pub mod DownlinkBounds
 pub mod DownlinkNorms
+pub mod PduNames
 pub mod Sending
 pub mod Rooms
 pub mod Default

@@ -1,2 +1,3 @@
 pub mod ChangeBounds
+pub mod ChangeNames
 pub mod ChangeNorms

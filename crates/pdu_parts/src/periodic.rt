@@ -63,7 +63,7 @@ impl Part for Periodic {
 
     fn write(p: Pen, out: &mut [u8; 128], a: Periodic) -> Pen {
         if REPORT_BITS < a.elements {
-            return p.refuse(Refusal::OutOfRange);
+            return p.refuse(Refusal::OutOfRange.number());
         }
         let v = bits_of(a.interval.is_five(), a.elements);
         let p = p.mask(out, v, PERIODIC_BITS, PERIODIC_CARRIED, false);

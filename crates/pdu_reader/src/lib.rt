@@ -2,7 +2,6 @@
 #![tactic(auto)]
 
 ghost use Rattle.std.specs.Prelude.{◌≡◌};
-ghost use Rattle.per.specs.Places.{seen};
 ghost use Rattle.per.specs.Pdu.{window, finish, read_pdu};
 ghost use Rattle.per.specs.Formats.{run, num, flag, extension, signed, mask, index, count, when};
 ghost use Rattle.per.specs.Reading.{Reads};
@@ -97,7 +96,7 @@ impl<'a> Reader<'a> {
 
     // What is left after the PDU: 13 for filling that is not zero, 14 for octets behind it.
     pub fn finish(self) -> Cursor
-        ensures { seen result ≡ finish (window self.entry.octets.now) (seen self.entry.place) }
+        ensures { result ≡ finish (window self.entry.octets.now) self.entry.place }
     {
         self.place.finish(self.octets)
     }
@@ -141,7 +140,7 @@ fn ground_from(place: Cursor, octets: &[u8]) -> Read<Ground>
 }
 
 fn end_from(place: Cursor, octets: &[u8]) -> Cursor
-    ensures { seen result ≡ finish (window octets.now) (seen place) }
+    ensures { result ≡ finish (window octets.now) place }
 {
     Reader::new(octets, place).finish()
 }
@@ -152,7 +151,7 @@ pub fn held_air(octets: &[u8]) -> Result<AirPdu, Refusal>
 {
     let a = air_from(Cursor::start(octets), octets);
     let end = end_from(a.next, octets);
-    answer(a.value, end.refusal)
+    answer(a.value, Refusal::of(end.refusal))
 }
 
 // The whole of a ground PDU's octets, read through the reader: the answer is `pdu::decode_ground`'s.
@@ -161,5 +160,5 @@ pub fn held_ground(octets: &[u8]) -> Result<Ground, Refusal>
 {
     let g = ground_from(Cursor::start(octets), octets);
     let end = end_from(g.next, octets);
-    answer(g.value, end.refusal)
+    answer(g.value, Refusal::of(end.refusal))
 }

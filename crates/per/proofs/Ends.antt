@@ -6,12 +6,12 @@ use mathlib.Core.List.{List}
 use native.Mathlib.Omega.{arith}
 use lib.ListN.{length, get_or-eq_default}
 use borrow.Author.Tests.{eq-eqb, ne_eqb}
-use Rattle.per.specs.Places.{Cursor}
+use Rattle.per.specs.declared.cursor.Cursor.{Cursor}
 use Rattle.per.specs.Bits.{of_bit, num_at}
 use Rattle.per.specs.Codec.{Codec, refuse}
 use Rattle.per.specs.laws.Codec.{first-not}
 use Rattle.per.specs.Pdu.{fill, window, start, ending, finish, refused, answer, read_pdu}
-use Rattle.per.specs.Reading.{Yields}
+use Rattle.per.specs.Reading.{Reads}
 
 -- past the end there are no ones
 num-past : (bs : List Bool) (at w : ℕ) → length bs ≤ at → num_at bs at w ≡ 0
@@ -46,6 +46,6 @@ pub answer-refused : {A : Type 0} (n : ℕ) (a : A) → (n ≡ 0 → ⊥) → an
 answer-refused zero a h = absurd (h refl)
 answer-refused (suc n) a h = refl
 
-pub pdu-is : {A : Type 0} (c : Codec A) {s : List ℕ} {j n e : Cursor} {v : A} → j ≡ start s → Yields c s j v n → e ≡ finish (window s) n → read_pdu c s ≡ answer e.refusal v
+pub pdu-is : {A : Type 0} (c : Codec A) {s : List ℕ} {j n e : Cursor} {v : A} → j ≡ start s → Reads c s j v n → e ≡ finish (window s) n → read_pdu c s ≡ answer e.refusal v
 unfolding read_pdu
 pdu-is c b r f = rw (← b, ← r.value_is, ← r.next_is, f)

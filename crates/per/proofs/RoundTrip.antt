@@ -10,7 +10,7 @@ use lib.ListN.{length, get_or, drop, replicate, length-append, length-drop, leng
 use lib.Seq.{drop_at, drop-append_seam}
 use lib.Dec.{eqb, leb}
 use borrow.Author.Tests.{eq-eqb, eqb-true, le-leb, leb-true}
-use Rattle.per.specs.Places.{Cursor}
+use Rattle.per.specs.declared.cursor.Cursor.{Cursor}
 use Rattle.per.specs.Bits.{to_bit, to_bits, num_at, bits_of}
 use Rattle.per.specs.laws.Bits.{length-to_bits, num-there, num-back}
 use Rattle.per.specs.Codec.{Codec, Out, out, place, Within, first, unless}

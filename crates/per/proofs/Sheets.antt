@@ -10,16 +10,15 @@ use lib.Seq.{set-append_left, set-append_seam, drop-append-le, length-take-le}
 use lib.Dec.{eqb, leb, ltb}
 use borrow.Author.Tests.{ltb-true, ltb-false, lt-ltb, le-leb, lt-leb}
 use Rattle.std.specs.Prelude.{Result}
-use Rattle.refusals.specs.declared.Refusal.{Refusal}
-use Rattle.per.specs.declared.pen.Pen as pen
-use Rattle.per.specs.Places.{Pen, Octets, Refused}
-use Rattle.per.proofs.Seen.{told-alone}
+use Rattle.per.specs.declared.pen.Pen.{Pen}
+use Rattle.per.specs.Places.{Octets, Refused}
+use Rattle.per.proofs.Seen.{handed-alone}
 use Rattle.per.specs.Bits.{of_bit, to_bit, to_bits, bits_of, num_at}
 use Rattle.per.specs.laws.Bits.{num_at-lt, num-there, num-back, of_bit-lt, to-of, length-to_bits}
 use Rattle.per.specs.Codec.{Codec, first, unless}
 use Rattle.per.specs.laws.Codec.{first-not}
 use Rattle.per.specs.Pdu.{fill, pack, filled, encode}
-use Rattle.per.specs.Writing.{octet_with, set_bit, put_bits, onward, delivered, unsent, write_pdu, octets_for, deliver, Ink, ink, Leaves, Hands, Delivers}
+use Rattle.per.specs.Writing.{octet_with, set_bit, put_bits, onward, delivered, unsent, write_pdu, octets_for, deliver, Ink, ink, Writes, Hands, Delivers}
 use Rattle.per.proofs.Octets.{length-bits_of}
 use Rattle.per.proofs.Puts.{octet-with-is, octet-with-lt}
 use Rattle.per.proofs.RoundTrip.{pack-bits, length-filled, length-pack, length-encode}
@@ -222,7 +221,7 @@ module _ {A : Type 0} (c : Codec A) (a : A) (l : length (c.enc a) ≤ 1024) wher
       ∙ take-pack n 128 (filled e) (replicate (1024 - length (filled e)) false) (omega arith) (omega arith)
 
   -- what the code writes on a blank sheet and delivers is what the definition of a write says
-  pub delivers : (p : Pen) (s o : List ℕ) → Leaves c blank (record { at = 0; refusal = 0 }) a p s → deliver p s o ≡ write_pdu c a o
+  pub delivers : (p : Pen) (s o : List ℕ) → Writes c blank (record { at = 0; refusal = 0 }) a p s → deliver p s o ≡ write_pdu c a o
   unfolding ink deliver write_pdu
   delivers p s o w = rw (w.pen_is, w.octets_is) (go (c.chk a))
     where
@@ -243,7 +242,7 @@ module _ {A : Type 0} (c : Codec A) (a : A) (l : length (c.enc a) ≤ 1024) wher
       go (suc k) = refl
 
 -- a write changes octets and adds none
-pub sheet-long : {A : Type 0} (c : Codec A) {s t : List ℕ} {p q : Pen} {a : A} → Leaves c s p a q t → length t ≡ length s
+pub sheet-long : {A : Type 0} (c : Codec A) {s t : List ℕ} {p q : Pen} {a : A} → Writes c s p a q t → length t ≡ length s
 unfolding ink
 sheet-long c {s} {p = p} {a = a} w = ap length w.octets_is ∙ go (eqb p.refusal 0)
   where
@@ -252,5 +251,5 @@ sheet-long c {s} {p = p} {a = a} w = ap length w.octets_is ∙ go (eqb p.refusal
     go false = refl
 
 -- ---- how tight the statement of a delivery is: one answer and one content of the output
-pub delivers-one : {s o t u : List ℕ} (p : pen.Pen) (x y : Result ℕ Refusal) → Delivers p s o x t → Delivers p s o y u → (x ≡ y) × (t ≡ u)
-delivers-one p x y a b = (told-alone x y (a.answer_is ∙ sym b.answer_is), a.octets_is ∙ sym b.octets_is)
+pub delivers-one : {s o t u : List ℕ} (p : Pen) (x y : Result ℕ ℕ) → Delivers p s o x t → Delivers p s o y u → (x ≡ y) × (t ≡ u)
+delivers-one p x y a b = (handed-alone x y (a.answer_is ∙ sym b.answer_is), a.octets_is ∙ sym b.octets_is)

@@ -1,7 +1,7 @@
 -- What a codec is: how a value is read at a cursor, what refuses its writing, and its bits; with the laws that tie them.
 -- A cursor that holds a refusal is kept, so the reader of several fields goes straight on.
 use Rattle.std.specs.Prelude.{ℕ, zero, suc, ◌+◌, ◌≤◌, ◌≡◌, Bool, true, false, List, [], ◌++◌, length, drop}
-use Rattle.per.specs.Places.{Cursor}
+use Rattle.per.specs.declared.cursor.Cursor.{Cursor}
 
 -- what a reading gives: the value, and the cursor moved on
 pub record Out (A : Type 0) : Type 0 where

@@ -1,6 +1,6 @@
 -- One field: so many bits, read and written as one number.
 use Rattle.std.specs.Prelude.{ℕ, zero, suc, ◌+◌, ◌-◌, ◌^◌, ◌<◌, ◌≡◌, Bool, cond, List, length, eqb, leb, ℤ, pos, negsuc}
-use Rattle.per.specs.Places.{Cursor}
+use Rattle.per.specs.declared.cursor.Cursor.{Cursor}
 use Rattle.per.specs.Bits.{to_bits, num_at}
 use Rattle.per.specs.Codec.{Out, out, place, refuse, unless, upto}
 use Rattle.refusals.specs.Refusals.{CUT-SHORT, OUT-OF-RANGE}

@@ -1,6 +1,6 @@
 -- The octet level: a PDU's bits, filled to an octet with zeros; and what reading and writing a whole PDU gives.
 use Rattle.std.specs.Prelude.{ℕ, zero, suc, ◌+◌, ◌-◌, ◌/◌, ◌%◌, Bool, false, List, [], ◌∷◌, ◌++◌, length, take, drop, replicate, eqb, leb}
-use Rattle.per.specs.Places.{Cursor}
+use Rattle.per.specs.declared.cursor.Cursor.{Cursor}
 use Rattle.per.specs.Bits.{num_at, bits_of}
 use Rattle.per.specs.Codec.{Codec, first, unless, refuse}
 use Rattle.refusals.specs.Refusals.{FILLING, INPUT-OVER, OCTETS-AFTER}

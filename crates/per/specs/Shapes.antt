@@ -1,6 +1,6 @@
 -- How codecs are put together: what each way of it reads and writes. Its laws are in laws/, the codecs themselves in Formats.antt.
 use Rattle.std.specs.Prelude.{ℕ, ◌≤◌, max, ◌≡◌, Bool, cond, List, ◌++◌, eqb, length}
-use Rattle.per.specs.Places.{Cursor}
+use Rattle.per.specs.declared.cursor.Cursor.{Cursor}
 use Rattle.per.specs.Codec.{Codec, Out, out, first, upto}
 use Rattle.per.specs.Field.{settle}
 

@@ -1,22 +1,21 @@
 // Reading: a cursor by value that keeps its first refusal. A read on a cursor that holds one gives the empty value and the same cursor.
-ghost use Rattle.std.specs.Prelude.{◌≡◌, not, ◌+◌, ◌-◌, Some, eqb, leb};
-ghost use Rattle.per.specs.Places.{seen};
-ghost use Rattle.per.specs.Codec.{unless};
+ghost use Rattle.std.specs.Prelude.{◌≡◌, not, ◌+◌, ◌-◌, eqb, leb};
+ghost use Rattle.per.specs.Codec.{unless, refuse};
 ghost use Rattle.per.specs.Formats.{run, num, flag, extension, signed, mask, mask_bad, has, index, count, when};
 ghost use Rattle.per.specs.Pdu.{window, start, ending, finish};
 ghost use Rattle.per.specs.Reading.{Reads};
-ghost use Rattle.per.specs.ReadingInner.{seen_read, settled};
-ghost use Rattle.refusals.specs.Refusals.{EXTENSION-SET, LIST-OVER, number_or_none};
+ghost use Rattle.per.specs.ReadingInner.{settled};
+ghost use Rattle.refusals.specs.Refusals.{EXTENSION-SET, LIST-OVER, number, number_or_none};
 
 use crate::read_bits::{bits_at, left, octet_rest, room, width_of};
 use refusals::Refusal;
 
-// Where reading stands, and the first refusal it met.
+// Where reading stands, and the number of the first refusal it met (0: none).
 #[derive(Drop)]
 #[derive(Clone, Copy)]
 pub struct Cursor {
     pub at: usize,
-    pub refusal: Option<Refusal>,
+    pub refusal: u8,
 }
 
 // What was read at a place, and where reading goes on.
@@ -36,11 +35,11 @@ pub struct Signed {
 
 // Nothing was read at a place, for the refusal's reason: `value` is the empty one.
 fn refused<T>(value: T, at: usize, refusal: Refusal) -> Read<T>
-    ensures { result ≡ record { value = value; next = record { at = at; refusal = Some refusal } } }
+    ensures { result ≡ record { value = value; next = refuse at (number refusal) } }
 {
     let next = Cursor {
         at,
-        refusal: Some(refusal),
+        refusal: refusal.number(),
     };
     Read { value, next }
 }
@@ -117,17 +116,14 @@ fn ending_bad(s: &[u8], at: usize) -> Option<Refusal>
 impl Cursor {
     // The start of an input: one over 128 octets is refused with 16 before anything is read.
     pub fn start(s: &[u8]) -> Self
-        ensures { seen result ≡ start s.now }
+        ensures { result ≡ start s.now }
     {
         if s.len() <= 128 {
-            return Self {
-                at: 0,
-                refusal: None,
-            };
+            return Self { at: 0, refusal: 0 };
         }
         Self {
             at: 0,
-            refusal: Some(Refusal::InputOver),
+            refusal: Refusal::InputOver.number(),
         }
     }
 
@@ -136,7 +132,7 @@ impl Cursor {
         ensures { Reads (run w) s.now self result.value result.next }
     {
         let at = self.at;
-        if self.refusal.is_some() {
+        if self.refusal != 0 {
             return Read {
                 value: 0,
                 next: self,
@@ -147,7 +143,7 @@ impl Cursor {
         }
         let next = Cursor {
             at: at + w,
-            refusal: None,
+            refusal: 0,
         };
         // Called from one place alone, the leaf would be compiled into `take`, which then is too long to be compiled into its callers, where w is known.
         if w <= 8 {
@@ -163,9 +159,9 @@ impl Cursor {
 
     // The reading t from this place on, with the judgement `bad` on it.
     fn settle(self, t: Read<u32>, bad: Option<Refusal>) -> Read<u32>
-        ensures { seen_read result ≡ settled (seen self) (seen_read t) (number_or_none bad) }
+        ensures { result ≡ settled self t (number_or_none bad) }
     {
-        if t.next.refusal.is_some() {
+        if t.next.refusal != 0 {
             return t;
         }
         if let Some(refusal) = bad {
@@ -179,7 +175,7 @@ impl Cursor {
         ensures { Reads (num lo hi) s.now self result.value result.next }
     {
         let t = self.take(s, width_of(span(lo, hi)));
-        if t.next.refusal.is_some() {
+        if t.next.refusal != 0 {
             return t;
         }
         if above(lo, hi, t.value) {
@@ -253,7 +249,7 @@ impl Cursor {
     {
         let most = top as u32 + below as u32;
         let t = self.take(s, width_of(most));
-        if t.next.refusal.is_some() {
+        if t.next.refusal != 0 {
             return Read {
                 value: Signed { number: 0 },
                 next: t.next,
@@ -271,14 +267,17 @@ impl Cursor {
 
     // The end of the PDU: the filling, and that no octet follows.
     pub fn finish(self, s: &[u8]) -> Cursor
-        ensures { seen result ≡ finish (window s.now) (seen self) }
+        ensures { result ≡ finish (window s.now) self }
     {
-        if self.refusal.is_some() {
+        if self.refusal != 0 {
             return self;
         }
-        Cursor {
-            at: self.at,
-            refusal: ending_bad(s, self.at),
+        match ending_bad(s, self.at) {
+            Some(refusal) => Cursor {
+                refusal: refusal.number(),
+                ..self
+            },
+            None => self,
         }
     }
 }

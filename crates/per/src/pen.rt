@@ -1,7 +1,5 @@
 // Writing: a pen by value over 128 lent octets that keeps its first refusal. From then on it writes nothing.
 ghost use Rattle.std.specs.Prelude.{◌≡◌, ◌≤◌};
-ghost use Rattle.refusals.specs.Refusals.{number};
-ghost use Rattle.per.specs.Places.{seen_pen};
 ghost use Rattle.per.specs.Bits.{of_bit};
 ghost use Rattle.per.specs.Formats.{run, num, flag, extension, signed, mask, index, count, when};
 ghost use Rattle.per.specs.Writing.{onward, barred, Writes, Delivers};
@@ -12,11 +10,11 @@ use crate::read_bits::{pow2, width_of};
 use crate::write_bits::put_bits;
 use refusals::Refusal;
 
-// Where writing stands, and the first refusal it met.
+// Where writing stands, and the number of the first refusal it met (0: none).
 #[derive(Drop)]
 pub struct Pen {
     pub at: usize,
-    pub refusal: Option<Refusal>,
+    pub refusal: u8,
 }
 
 // The place after w bits; past 128 octets a pen moves no more.
@@ -52,37 +50,31 @@ fn raise(z: Signed, below: u16, top: u16) -> u32
 impl Pen {
     // The start of a PDU.
     pub fn start() -> Self
-        ensures { seen_pen result ≡ record { at = 0; refusal = 0 } }
+        ensures { result ≡ record { at = 0; refusal = 0 } }
     {
-        Self {
-            at: 0,
-            refusal: None,
-        }
+        Self { at: 0, refusal: 0 }
     }
 
-    // A refusal that is not a field's.
-    pub fn refuse(self, refusal: Refusal) -> Pen
-        ensures { seen_pen result ≡ barred (seen_pen self) (number refusal) }
+    // The number of a refusal that is not a field's.
+    pub fn refuse(self, n: u8) -> Pen
+        ensures { result ≡ barred self n }
     {
-        if self.refusal.is_some() {
+        if self.refusal != 0 {
             return self;
         }
-        Pen {
-            refusal: Some(refusal),
-            ..self
-        }
+        Pen { refusal: n, ..self }
     }
 
     // The w lowest bits of v, by a pen that holds no refusal.
     #[inline(always)]
     fn ink(self, out: &mut [u8; 128], w: usize, v: u32) -> Pen
         requires { w ≤ 32 }
-        ensures { Inked out.old (seen_pen self) w v (seen_pen result) out.new }
+        ensures { Inked out.old self w v result out.new }
     {
         put_bits(out, self.at, w, v);
         Pen {
             at: onward_of(self.at, w),
-            refusal: None,
+            refusal: 0,
         }
     }
 
@@ -91,12 +83,12 @@ impl Pen {
     pub fn put(self, out: &mut [u8; 128], w: usize, v: u32) -> Pen
         ensures { Writes (run w) out.old self v result out.new }
     {
-        if self.refusal.is_some() {
+        if self.refusal != 0 {
             return self;
         }
         if 32 < w || pow2(w) <= v as u64 {
             return Pen {
-                refusal: Some(Refusal::OutOfRange),
+                refusal: Refusal::OutOfRange.number(),
                 ..self
             };
         }
@@ -108,12 +100,12 @@ impl Pen {
     pub fn num(self, out: &mut [u8; 128], v: u32, lo: u32, hi: u32) -> Pen
         ensures { Writes (num lo hi) out.old self v result out.new }
     {
-        if self.refusal.is_some() {
+        if self.refusal != 0 {
             return self;
         }
         if v < lo || hi < v {
             return Pen {
-                refusal: Some(Refusal::OutOfRange),
+                refusal: Refusal::OutOfRange.number(),
                 ..self
             };
         }
@@ -144,7 +136,7 @@ impl Pen {
     pub fn flag(self, out: &mut [u8; 128], b: bool) -> Pen
         ensures { Writes flag out.old self b result out.new }
     {
-        if self.refusal.is_some() {
+        if self.refusal != 0 {
             return self;
         }
         self.ink(out, 1, bit_of(b))
@@ -155,7 +147,7 @@ impl Pen {
     pub fn extension(self, out: &mut [u8; 128]) -> Pen
         ensures { Writes extension out.old self (record {}) result out.new }
     {
-        if self.refusal.is_some() {
+        if self.refusal != 0 {
             return self;
         }
         self.ink(out, 1, 0)
@@ -166,12 +158,12 @@ impl Pen {
     pub fn count(self, out: &mut [u8; 128], n: u32) -> Pen
         ensures { Writes count out.old self n result out.new }
     {
-        if self.refusal.is_some() {
+        if self.refusal != 0 {
             return self;
         }
         if 16 < n {
             return Pen {
-                refusal: Some(Refusal::ListOver),
+                refusal: Refusal::ListOver.number(),
                 ..self
             };
         }
@@ -184,18 +176,18 @@ impl Pen {
         ensures { Writes (mask all carried need) out.old self v result out.new }
     {
         let bad = mask_bad(v, carried, need);
-        if self.refusal.is_some() {
+        if self.refusal != 0 {
             return self;
         }
         if all < v {
             return Pen {
-                refusal: Some(Refusal::OutOfRange),
+                refusal: Refusal::OutOfRange.number(),
                 ..self
             };
         }
-        if bad.is_some() {
+        if let Some(refusal) = bad {
             return Pen {
-                refusal: bad,
+                refusal: refusal.number(),
                 ..self
             };
         }
@@ -209,12 +201,12 @@ impl Pen {
     {
         let most = top as u32 + below as u32;
         let sent = raise(v, below, top);
-        if self.refusal.is_some() {
+        if self.refusal != 0 {
             return self;
         }
         if most < sent {
             return Pen {
-                refusal: Some(Refusal::OutOfRange),
+                refusal: Refusal::OutOfRange.number(),
                 ..self
             };
         }
@@ -222,15 +214,15 @@ impl Pen {
     }
 
     // What stands on the sheet, put into an output: only where there is no refusal, and 6 where it is too short.
-    pub fn deliver(self, sheet: &[u8], out: &mut [u8]) -> Result<usize, Refusal>
+    pub fn deliver(self, sheet: &[u8], out: &mut [u8]) -> Result<usize, u8>
         ensures { Delivers self sheet.now out.old result out.new }
     {
         let n = self.at.div_ceil(8);
-        if let Some(refusal) = self.refusal {
-            return Err(refusal);
+        if self.refusal != 0 {
+            return Err(self.refusal);
         }
         if sheet.len() < n || out.len() < n {
-            return Err(Refusal::NoRoom);
+            return Err(Refusal::NoRoom.number());
         }
         out[..n].copy_from_slice(&sheet[..n]);
         Ok(n)

@@ -7,7 +7,7 @@ use native.Mathlib.Omega.{arith}
 use lib.Bits.{bit_and}
 use lib.Dec.{T, eqb, leb, eqb-suc-zero}
 use lib.ListN.{length}
-use Rattle.per.specs.Places.{Cursor}
+use Rattle.per.specs.declared.cursor.Cursor.{Cursor}
 use Rattle.per.specs.Bits.{num_at}
 use Rattle.per.specs.Codec.{Codec, Out, out, refuse, first}
 use Rattle.per.specs.Field.{Field, settle}

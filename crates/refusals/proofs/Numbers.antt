@@ -1,8 +1,9 @@
 -- A refusal is known from its number, and 0 is no refusal's: nothing is lost where numbers are looked at. Assumes nothing.
+use Prim.Native.Nat.{ℕ}
 use Rattle.std.proofs.Common.{◌≡◌, Bool, true, false, Option, Some, None, is_some, refl, sym, ap, ◌∙◌, arith}
 use mathlib.Core.Bool.{false≢true}
 use Rattle.refusals.specs.declared.Refusal.{Refusal}
-use Rattle.refusals.specs.Refusals.{number, number_or_none}
+use Rattle.refusals.specs.Refusals.{number, number_or_none, Named}
 
 -- different refusals have different numbers
 pub number-alone : (r q : Refusal) → number r ≡ number q → r ≡ q
@@ -25,3 +26,12 @@ some-number (Some r) e h z = number-some r z
 pub none-number : (o : Option Refusal) {b : Bool} → b ≡ is_some o → b ≡ false → number_or_none o ≡ 0
 none-number None e h = refl
 none-number (Some r) e h = absurd (false≢true (sym h ∙ e))
+
+-- a number that is named has its refusal looked up
+pub found : {n : ℕ} {x : Option Refusal} → Named n → ((r : Refusal) → number r ≡ n → x ≡ Some r) → ((r : Refusal) → x ≡ Some r → number r ≡ n) → number_or_none x ≡ n
+found {n} {x} m known only = go m.who x m.is known only
+  where
+    go : (o x : Option Refusal) → number_or_none o ≡ n → ((r : Refusal) → number r ≡ n → x ≡ Some r) → ((r : Refusal) → x ≡ Some r → number r ≡ n) → number_or_none x ≡ n
+    go None None e known only = e
+    go None (Some r) e known only = absurd (number-some r (only r refl ∙ sym e))
+    go (Some r) x e known only = ap number_or_none (known r e) ∙ e

@@ -1,5 +1,5 @@
 -- The numbers by which calls refuse, each with the words of 01 ("Refusal numbers") or of the request that brought it. 0 is no refusal.
-use Rattle.std.specs.Prelude.{ℕ, Option, Some, None}
+use Rattle.std.specs.Prelude.{ℕ, ◌≡◌, Option, Some, None}
 use Rattle.refusals.specs.declared.Refusal.{Refusal}
 use Rattle.refusals.specs.declared.Refusal.TheVariants as why
 
@@ -112,3 +112,8 @@ number why.BadRecord = BAD-RECORD
 abbrev pub number_or_none : Option Refusal → ℕ
 number_or_none None = 0
 number_or_none (Some r) = number r
+
+-- a number that is 0, or a refusal's
+pub record Named (n : ℕ) : Type 0 where
+  pub who : Option Refusal
+  pub is : number_or_none who ≡ n

@@ -1,7 +1,7 @@
 // Why a call refuses, each with the words of 01 ("Refusal numbers") or of the request that brought it, and its number. 0 is no refusal's.
 #![tactic(auto)]
 
-ghost use Rattle.std.specs.Prelude.{◌≡◌};
+ghost use Rattle.std.specs.Prelude.{◌≡◌, Some};
 ghost use Rattle.refusals.specs.Refusals.{number};
 
 #[derive(Clone, Copy, PartialEq, Eq, Debug)]
@@ -56,6 +56,36 @@ impl Refusal {
         ensures alone { (r : Refusal) → number r ≡ result → r ≡ self }
     {
         self as u8
+    }
+
+    // The refusal of a number, where there is one.
+    pub fn of(n: u8) -> Option<Self>
+        ensures known { (r : Refusal) → number r ≡ n → result ≡ Some r }
+        ensures only { (r : Refusal) → result ≡ Some r → number r ≡ n }
+    {
+        match n {
+            NOT_PERMITTED => Some(Self::NotPermitted),
+            CANNOT_OCCUR => Some(Self::CannotOccur),
+            BAD_SETTING => Some(Self::BadSetting),
+            ELAPSE_OVER => Some(Self::ElapseOver),
+            OUT_OF_RANGE => Some(Self::OutOfRange),
+            NO_ROOM => Some(Self::NoRoom),
+            CUT_SHORT => Some(Self::CutShort),
+            ABOVE_RANGE => Some(Self::AboveRange),
+            EXTENSION_SET => Some(Self::ExtensionSet),
+            NOT_CARRIED => Some(Self::NotCarried),
+            LIST_OVER => Some(Self::ListOver),
+            FILLING => Some(Self::Filling),
+            OCTETS_AFTER => Some(Self::OctetsAfter),
+            NO_ELEMENT => Some(Self::NoElement),
+            INPUT_OVER => Some(Self::InputOver),
+            SCRIPT_LINE => Some(Self::ScriptLine),
+            CHECK_WRONG => Some(Self::CheckWrong),
+            OUT_OF_TURN => Some(Self::OutOfTurn),
+            NOT_READABLE => Some(Self::NotReadable),
+            BAD_RECORD => Some(Self::BadRecord),
+            _ => None,
+        }
     }
 }
 

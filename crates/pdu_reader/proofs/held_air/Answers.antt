@@ -1,7 +1,8 @@
 use mathlib.Core.Path.{sym, ◌∙◌}
-use Rattle.per.proofs.Ends.{pdu-is}
+use Rattle.per.proofs.Named.{pdu-found}
 use Rattle.pdu.specs.DownlinkTable.{air_c}
+use Rattle.pdu.proofs.PduNames.{air-named}
 use Rattle.pdu_reader.proofs.held_air.Goals as goal
 
 pub returns : goal.returns
-returns c = c.answer.ensures ∙ sym (pdu-is air_c c.start.ensures c.air_from-a.ensures c.end_from-end.ensures)
+returns c = c.answer.ensures ∙ sym (pdu-found air_c air-named c.start.ensures c.air_from-a.ensures c.end_from-end.ensures c.of.ensures.known c.of.ensures.only)

@@ -1,7 +1,8 @@
 use mathlib.Core.Path.{sym, ◌∙◌}
-use Rattle.per.proofs.Ends.{pdu-is}
+use Rattle.per.proofs.Named.{pdu-found}
 use Rattle.pdu.specs.UplinkTable.{ground_c}
+use Rattle.pdu.proofs.PduNames.{ground-named}
 use Rattle.pdu_reader.proofs.held_ground.Goals as goal
 
 pub returns : goal.returns
-returns c = c.answer.ensures ∙ sym (pdu-is ground_c c.start.ensures c.ground_from-g.ensures c.end_from-end.ensures)
+returns c = c.answer.ensures ∙ sym (pdu-found ground_c ground-named c.start.ensures c.ground_from-g.ensures c.end_from-end.ensures c.of.ensures.known c.of.ensures.only)

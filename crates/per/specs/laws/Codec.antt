@@ -2,7 +2,7 @@
 use Rattle.std.specs.Prelude.{ℕ, zero, suc, ◌≤◌, ◌<◌, ◌≡◌, refl, Bool, true, false, List, eqb, leb, ltb}
 use Rattle.std.proofs.Common.{arith, eqb-true, le-leb, lt-ltb}
 use Rattle.std.proofs.lemmas.Bool.{eqb-false, lt-leb}
-use Rattle.per.specs.Places.{Cursor}
+use Rattle.per.specs.declared.cursor.Cursor.{Cursor}
 use Rattle.per.specs.Codec.{Codec, first, unless}
 
 pub first-0 : (m n : ℕ) → first m n ≡ 0 → m ≡ 0

@@ -2,7 +2,7 @@
 use Rattle.std.specs.Prelude.{ℕ, zero, suc, ◌+◌, ◌-◌, ◌≤◌, ◌≡◌, refl, Bool, true, false, cond, List, ◌++◌, length, drop, eqb, leb}
 use Rattle.std.proofs.Common.{◌∙◌, arith, length-append, length-drop, eq-eqb, ne_eqb, eqb-true, leb-true, le-leb}
 use Rattle.std.proofs.lemmas.Bool.{false≢true}
-use Rattle.per.specs.Places.{Cursor}
+use Rattle.per.specs.declared.cursor.Cursor.{Cursor}
 use Rattle.per.specs.Bits.{to_bits, num_at}
 use Rattle.per.specs.laws.Bits.{length-to_bits, num_at-lt, num-there, num-back}
 use Rattle.per.specs.Codec.{out, place, refuse, Kept, Own}

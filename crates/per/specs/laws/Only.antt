@@ -2,7 +2,7 @@
 use Rattle.std.specs.Prelude.{ℕ, zero, suc, ◌+◌, ◌≤◌, ◌≡◌, refl, Bool, true, false, cond, List, ◌++◌, length, drop, eqb}
 use Rattle.std.proofs.Common.{sym, ap, subst, arith, eq-eqb, ne_eqb, eqb-true}
 use Rattle.std.proofs.lemmas.Bool.{false≢true}
-use Rattle.per.specs.Places.{Cursor}
+use Rattle.per.specs.declared.cursor.Cursor.{Cursor}
 use Rattle.per.specs.Codec.{Codec, Out, out, place, Kept, Own}
 use Rattle.per.specs.laws.Codec.{first-0, first-1, first-00}
 use Rattle.per.specs.Field.{settle}

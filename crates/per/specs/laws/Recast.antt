@@ -1,7 +1,7 @@
 -- The laws of a value with more forms than one. Assumes nothing.
 use Rattle.std.specs.Prelude.{ℕ, zero, suc, ◌≤◌, ◌≡◌, refl, Bool, List}
 use Rattle.std.proofs.Common.{arith}
-use Rattle.per.specs.Places.{Cursor}
+use Rattle.per.specs.declared.cursor.Cursor.{Cursor}
 use Rattle.per.specs.Codec.{Codec, Kept, Own}
 use Rattle.per.specs.laws.Codec.{first-0}
 use Rattle.per.specs.Shapes.{via_run, via_chk, via_enc, Other, recast_form}

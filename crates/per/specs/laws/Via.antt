@@ -1,7 +1,7 @@
 -- The laws of the same bits for another type, and of no bits. Assumes nothing.
 use Rattle.std.specs.Prelude.{ℕ, ◌+◌, ◌≤◌, ◌≡◌, Bool, List, ◌++◌, length, drop}
 use Rattle.std.proofs.Common.{ap, add-zero, arith}
-use Rattle.per.specs.Places.{Cursor}
+use Rattle.per.specs.declared.cursor.Cursor.{Cursor}
 use Rattle.per.specs.Codec.{Codec, out, place, Kept, Own}
 use Rattle.per.specs.laws.Codec.{first-0, first-1}
 use Rattle.per.specs.Shapes.{via_run, via_chk, via_enc}

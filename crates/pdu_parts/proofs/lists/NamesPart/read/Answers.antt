@@ -1,7 +1,6 @@
 use mathlib.Core.Bool.{false}
 use native.Mathlib.Nat.{mul_assoc}
 use native.Mathlib.Omega.{arith}
-use Rattle.refusals.proofs.Numbers.{none-number}
 use Rattle.per.proofs.Compose.{count_most}
 use Rattle.pdu_parts.specs.Lists.{entry_c}
 use Rattle.pdu_parts.proofs.ListLaws.{listed-reads}
@@ -15,4 +14,4 @@ read_halves-items-requires c = omega (arith, count_most c.count-count.ensures)
 
 pub returns : goal.returns
 returns c = listed-reads 8 (entry_c false 127) c.count-count.ensures
-    (rw (mul_assoc c.count-count.result.value 2 4) at (c.read_halves-items.ensures (none-number c.read_halves-items.result.next.refusal c.is_some.ensures c.if-is_some.false)))
+    (rw (mul_assoc c.count-count.result.value 2 4) at (c.read_halves-items.ensures c.if-next-ne0.false))

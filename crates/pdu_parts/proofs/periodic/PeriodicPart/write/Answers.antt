@@ -10,7 +10,7 @@ use Rattle.pdu_parts.proofs.periodic.PeriodicPart.write.Goals as goal
 pub returns-then-a-gt-REPORT_BITS : goal.returns-then-a-gt-REPORT_BITS
 unfolding periodic_c recast
 returns-then-a-gt-REPORT_BITS c = let e = unless-gt _ _ 5 c.if-a-gt-REPORT_BITS.true in
-    inks-refused periodic_c 5 (rw e) (rw e) c.refuse.ensures
+    inks-refused periodic_c 5 (rw e) (rw e) (rw c.number.ensures.is at c.refuse.ensures)
 
 pub returns : goal.returns
 unfolding periodic_c moduli_c field only interval_if

@@ -1,19 +1,18 @@
 use mathlib.Core.Path.{refl, ap, ◌∙◌}
 use native.Mathlib.Omega.{arith}
-use Rattle.refusals.proofs.Numbers.{some-number, none-number}
 use Rattle.per.specs.Bits.{width}
 use Rattle.per.specs.Formats.{num_field}
 use Rattle.per.specs.laws.Codec.{unless-le}
 use Rattle.per.proofs.Leaf.{judged-stays, judged-bad, judged-good, above-8, above-le}
 use Rattle.per.proofs.cursor.Cursor.num.Goals as goal
 
-pub returns-then-is_some : goal.returns-then-is_some
-returns-then-is_some c = let w = c.width_of.ensures in
-    judged-stays (num_field _ _) (w.0 ∙ ap width c.span.ensures) w.1 c.take-t.ensures refl (some-number c.take-t.result.next.refusal c.is_some.ensures c.if-is_some.true)
+pub returns-then-t-ne0 : goal.returns-then-t-ne0
+returns-then-t-ne0 c = let w = c.width_of.ensures in
+    judged-stays (num_field _ _) (w.0 ∙ ap width c.span.ensures) w.1 c.take-t.ensures refl c.if-t-ne0.true
 
 pub returns-then-above : goal.returns-then-above
 returns-then-above c = let w = c.width_of.ensures in
-    rw c.refused.ensures (judged-bad (num_field _ _) (w.0 ∙ ap width c.span.ensures) w.1 c.take-t.ensures 7 (none-number c.take-t.result.next.refusal c.is_some.ensures c.if-is_some.false)
+    rw c.refused.ensures (judged-bad (num_field _ _) (w.0 ∙ ap width c.span.ensures) w.1 c.take-t.ensures 7 c.if-t-ne0.false
     (above-8 c.args.lo c.args.hi c.take-t.result.value _ c.above.ensures c.if-above.true))
 
 pub overflow_add-result : goal.overflow_add-result
@@ -21,5 +20,5 @@ overflow_add-result c = omega (arith, above-le c.args.lo c.args.hi c.take-t.resu
 
 pub returns : goal.returns
 returns c = let w = c.width_of.ensures in
-    judged-good (num_field _ _) (w.0 ∙ ap width c.span.ensures) w.1 c.take-t.ensures (none-number c.take-t.result.next.refusal c.is_some.ensures c.if-is_some.false)
+    judged-good (num_field _ _) (w.0 ∙ ap width c.span.ensures) w.1 c.take-t.ensures c.if-t-ne0.false
     (unless-le _ _ 8 (above-le c.args.lo c.args.hi c.take-t.result.value _ c.above.ensures c.if-above.false))

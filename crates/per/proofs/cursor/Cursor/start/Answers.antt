@@ -8,4 +8,4 @@ returns-then-s-le128 c = rw (le-leb _ _ c.if-s-le128.true)
 
 pub returns : goal.returns
 unfolding start
-returns c = rw (lt-leb _ _ c.if-s-le128.false)
+returns c = rw (c.number.ensures.is, lt-leb _ _ c.if-s-le128.false)
