@@ -1,4 +1,4 @@
--- What reading and writing refuse by: 0, or the number of a refusal. A law for each combinator, all found by `search names`. Assumes nothing.
+-- What reading and writing refuse by: 0, or the number of a refusal. A law for each combinator; `search names` finds those of most codecs. Assumes nothing.
 use Prim.Native.Nat.{ℕ, zero, suc, ◌*◌}
 use mathlib.Core.Path.{◌≡◌, refl, sym, ap, ◌∙◌}
 use mathlib.Core.Bool.{Bool, true, false, cond}

@@ -1,7 +1,6 @@
 -- A refusal is known from its number, and 0 is no refusal's: nothing is lost where numbers are looked at. Assumes nothing.
 use Prim.Native.Nat.{ℕ}
-use Rattle.std.proofs.Common.{◌≡◌, Bool, true, false, Option, Some, None, is_some, refl, sym, ap, ◌∙◌, arith}
-use mathlib.Core.Bool.{false≢true}
+use Rattle.std.proofs.Common.{◌≡◌, Option, Some, None, refl, sym, ap, ◌∙◌, arith}
 use Rattle.refusals.specs.declared.Refusal.{Refusal}
 use Rattle.refusals.specs.Refusals.{number, number_or_none, Named}
 
@@ -18,14 +17,12 @@ number_or_none-alone None (Some q) h = absurd (number-some q (sym h))
 number_or_none-alone (Some r) None h = absurd (number-some r h)
 number_or_none-alone (Some r) (Some q) h = ap Some (number-alone r q h)
 
--- whether there is one, by the test
-pub some-number : (o : Option Refusal) {b : Bool} → b ≡ is_some o → b ≡ true → number_or_none o ≡ 0 → ⊥
-some-number None e h z = absurd (false≢true (sym e ∙ h))
-some-number (Some r) e h z = number-some r z
-
-pub none-number : (o : Option Refusal) {b : Bool} → b ≡ is_some o → b ≡ false → number_or_none o ≡ 0
-none-number None e h = refl
-none-number (Some r) e h = absurd (false≢true (sym h ∙ e))
+-- what is looked up by a number is one, so `Refusal::of` has one result
+pub of-one : {n : ℕ} (x y : Option Refusal) → ((r : Refusal) → number r ≡ n → x ≡ Some r) → ((r : Refusal) → x ≡ Some r → number r ≡ n)
+    → ((r : Refusal) → number r ≡ n → y ≡ Some r) → ((r : Refusal) → y ≡ Some r → number r ≡ n) → x ≡ y
+of-one (Some r) y h k l m = sym (l r (k r refl))
+of-one None None h k l m = refl
+of-one None (Some q) h k l m = h q (m q refl)
 
 -- a number that is named has its refusal looked up
 pub found : {n : ℕ} {x : Option Refusal} → Named n → ((r : Refusal) → number r ≡ n → x ≡ Some r) → ((r : Refusal) → x ≡ Some r → number r ≡ n) → number_or_none x ≡ n

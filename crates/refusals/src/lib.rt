@@ -89,7 +89,7 @@ impl Refusal {
     }
 }
 
-// The numbers, for what keeps a number yet.
+// The numbers, for `Refusal::of` and for what keeps a number.
 pub const NOT_PERMITTED: u8 = 1;
 
 pub const CANNOT_OCCUR: u8 = 2;

@@ -1,13 +1,10 @@
 use borrow.Author.Tests.{eq-eqb, ne_eqb}
 use Rattle.per.specs.Writing.{barred}
--- src/pen.rt:90:13
 use Rattle.per.proofs.pen.Pen.refuse.Goals as goal
 
 pub returns-then-self-ne0 : goal.returns-then-self-ne0
 unfolding barred
 returns-then-self-ne0 c = rw (ne_eqb _ _ c.if-self-ne0.true)
-
--- src/pen.rt:86:5
 
 pub returns : goal.returns
 unfolding barred
