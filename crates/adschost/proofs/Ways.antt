@@ -8,7 +8,7 @@ use borrow.Author.Tests.{lt-ltb, le-ltb}
 use Rattle.std.specs.Prelude.{Result}
 use Rattle.refusals.specs.declared.Refusal.{Refusal}
 use Rattle.per.specs.Codec.{Codec}
-use Rattle.per.specs.Places.{Written, told}
+use Rattle.per.specs.Written.{Written, told}
 use Rattle.per.specs.Pdu.{Answer, got, refused}
 use Rattle.per.specs.Writing.{write_pdu}
 use Rattle.pdu.specs.Answers.{Sends}

@@ -2,7 +2,7 @@
 use Rattle.std.specs.Prelude.{◌≡◌, List, ℕ, ltb, length}
 use Rattle.std.proofs.lemmas.List.Edits.{sets}
 use Rattle.link.specs.Tests.{pick}
-use Rattle.per.specs.Places.{Written, Octets, Refused}
+use Rattle.per.specs.Written.{Written, Octets, Refused}
 use Rattle.per.specs.Pdu.{Answer, got, refused}
 use Rattle.per.specs.Writing.{Delivered}
 use Rattle.pdu.specs.declared.downlink.AirPdu.{AirPdu}

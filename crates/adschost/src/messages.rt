@@ -1,6 +1,6 @@
 // PDUs to flat numbers and back.
 ghost use Rattle.std.specs.Prelude.{◌≡◌};
-ghost use Rattle.per.specs.Places.{told};
+ghost use Rattle.per.specs.Written.{told};
 ghost use Rattle.per.specs.Pdu.{read_pdu};
 ghost use Rattle.per.specs.Writing.{write_pdu};
 ghost use Rattle.pdu.specs.UplinkTable.{ground_c};

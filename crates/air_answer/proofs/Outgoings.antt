@@ -5,7 +5,7 @@ use mathlib.Core.List.{List, []}
 use native.Mathlib.Omega.{arith}
 use lib.ListN.{length, replicate}
 use Rattle.per.specs.Pdu.{encode}
-use Rattle.per.specs.Places.{Octets, Refused}
+use Rattle.per.specs.Written.{Octets, Refused}
 use Rattle.per.specs.Writing.{write_pdu}
 use Rattle.per.proofs.RoundTrip.{length-encode}
 use Rattle.std.specs.Prelude.{Result, Ok, Err}

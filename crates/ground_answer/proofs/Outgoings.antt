@@ -1,7 +1,7 @@
 -- A ground PDU has room in the octets of an answer, so writing it there gives its octets or the refusal of its fields. Assumes nothing.
 use Rattle.std.proofs.Common.{◌≡◌, refl, sym, ap, ℕ, ◌≤◌, List, [], length, replicate, arith}
 use Rattle.per.specs.Pdu.{encode}
-use Rattle.per.specs.Places.{Octets, Refused}
+use Rattle.per.specs.Written.{Octets, Refused}
 use Rattle.per.specs.Writing.{write_pdu}
 use Rattle.per.proofs.RoundTrip.{length-encode}
 use Rattle.std.specs.Prelude.{Result, Ok, Err}

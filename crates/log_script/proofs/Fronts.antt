@@ -11,7 +11,7 @@ use Rattle.per.specs.Pdu.{encode}
 use Rattle.per.specs.Writing.{write_pdu, sent}
 use Rattle.std.specs.Prelude.{Result, Ok, Err}
 use Rattle.refusals.specs.declared.Refusal.{Refusal}
-use Rattle.per.specs.Places.{Octets, told}
+use Rattle.per.specs.Written.{Octets, told}
 use Rattle.per.proofs.Longest.{up}
 use Rattle.per.proofs.RoundTrip.{length-encode}
 use Rattle.pdu.specs.declared.uplink.Ground.{Ground}

@@ -4,7 +4,7 @@ use Rattle.refusals.specs.declared.Refusal.{Refusal}
 use Rattle.refusals.specs.Refusals.{number}
 use Rattle.per.specs.Codec.{Codec}
 use Rattle.per.specs.Pdu.{Answer, got, refused}
-use Rattle.per.specs.Places.{told}
+use Rattle.per.specs.Written.{told}
 use Rattle.per.specs.Writing.{write_pdu}
 
 -- what is answered of a value and the first refusal met

@@ -2,7 +2,7 @@
 use Rattle.std.specs.Prelude.{ℕ, false, List, [], ◌∷◌, pos, length, replicate}
 use Rattle.per.specs.Pdu.{Answer, got, refused, read_pdu}
 use Rattle.per.specs.Writing.{Delivered, write_pdu}
-use Rattle.per.specs.Places.{Written, Octets, Refused}
+use Rattle.per.specs.Written.{Written, Octets, Refused}
 use Rattle.pdu_events.specs.declared.changes.Changes.{Changes}
 use Rattle.pdu_events.specs.Changes.{no_range, no_either}
 use Rattle.pdu_events.specs.Elements.{WAYPOINT-CHANGE}

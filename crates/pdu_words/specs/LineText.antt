@@ -9,7 +9,7 @@ use Rattle.text.specs.declared.HexFault.{HexFault}
 use Rattle.per.specs.Codec.{Codec}
 use Rattle.per.specs.Pdu.{Answer, got, refused, read_pdu}
 use Rattle.per.specs.Writing.{write_pdu}
-use Rattle.per.specs.Places.{Written, Octets, Refused}
+use Rattle.per.specs.Written.{Written, Octets, Refused}
 use Rattle.pdu_parts.specs.declared.lists.Listed.{Listed}
 use Rattle.pdu.specs.UplinkTable.{ground_c}
 use Rattle.pdu.specs.DownlinkTable.{air_c}

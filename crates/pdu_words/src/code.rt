@@ -1,6 +1,6 @@
 // A PDU as its octets, written back from its value.
 ghost use Rattle.text.specs.Page.{page, Writes};
-ghost use Rattle.per.specs.Places.{told};
+ghost use Rattle.per.specs.Written.{told};
 ghost use Rattle.pdu.specs.DownlinkTable.{air_c};
 ghost use Rattle.pdu.specs.UplinkTable.{ground_c};
 ghost use Rattle.pdu_words.specs.LineText.{written_text, coded_text};

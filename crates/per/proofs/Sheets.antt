@@ -11,8 +11,8 @@ use lib.Dec.{eqb, leb, ltb}
 use borrow.Author.Tests.{ltb-true, ltb-false, lt-ltb, le-leb, lt-leb}
 use Rattle.std.specs.Prelude.{Result}
 use Rattle.per.specs.declared.pen.Pen.{Pen}
-use Rattle.per.specs.Places.{Octets, Refused}
-use Rattle.per.proofs.Seen.{handed-alone}
+use Rattle.per.specs.Written.{Octets, Refused}
+use Rattle.per.proofs.Told.{handed-alone}
 use Rattle.per.specs.Bits.{of_bit, to_bit, to_bits, bits_of, num_at}
 use Rattle.per.specs.laws.Bits.{num_at-lt, num-there, num-back, of_bit-lt, to-of, length-to_bits}
 use Rattle.per.specs.Codec.{Codec, first, unless}

@@ -1,5 +1,5 @@
 pub mod Bits
-pub mod Places
+pub mod Written
 pub mod Codec
 pub mod Field
 pub mod Shapes

@@ -4,7 +4,7 @@ use mathlib.Core.Path.{◌≡◌, ap}
 use Rattle.std.specs.Prelude.{Result, Ok, Err}
 use Rattle.refusals.specs.declared.Refusal.{Refusal}
 use Rattle.refusals.proofs.Numbers.{number-alone}
-use Rattle.per.specs.Places.{Refused, handed, told}
+use Rattle.per.specs.Written.{Refused, handed, told}
 
 refused-number : (m n : ℕ) → Refused m ≡ Refused n → m ≡ n
 refused-number m n e = cc
