@@ -4,6 +4,7 @@ pub mod DownlinkBounds
 pub mod DownlinkNorms
 pub mod PduNames
 pub mod Sending
+pub mod Hearing
 pub mod Rooms
 pub mod Default
 pub mod Promises

@@ -7,8 +7,8 @@ use lib.Dec.{eqb}
 use Rattle.std.specs.Prelude.{Option, Some, None, ℤ, pos, negsuc}
 use Rattle.refusals.specs.declared.Refusal.{Refusal}
 use Rattle.refusals.specs.declared.Refusal.TheVariants as why
-use Rattle.refusals.specs.Refusals.{number, number_or_none, Named}
-use Rattle.refusals.proofs.Numbers.{found}
+use Rattle.refusals.specs.Refusals.{number, number_or_none, Found, Named}
+use Rattle.refusals.proofs.Numbers.{found-named}
 use Rattle.per.specs.declared.cursor.Cursor.{Cursor}
 use Rattle.per.specs.declared.pen.Pen.{Pen}
 use Rattle.per.specs.Codec.{Codec, Out, first, unless}
@@ -153,10 +153,10 @@ read-named c p s =
 
 -- the refusal that is looked up behind a PDU is the one that was met
 pub pdu-found : {A : Type 0} (c : Codec A) → Refuses c → {s : List ℕ} {j n e : Cursor} {v : A} {x : Option Refusal} → j ≡ start s → Reads c s j v n → e ≡ finish (window s) n
-    → ((r : Refusal) → number r ≡ e.refusal → x ≡ Some r) → ((r : Refusal) → x ≡ Some r → number r ≡ e.refusal) → read_pdu c s ≡ answer (number_or_none x) v
-pdu-found c p {s} {v = v} b r f known only =
+    → Found e.refusal x → read_pdu c s ≡ answer (number_or_none x) v
+pdu-found c p {s} {v = v} b r f x =
     let m = rw (← b, ← r.next_is, ← f) at (read-named c p s) in
-    pdu-is c b r f ∙ ap (λ (n : ℕ). answer n v) (sym (found m known only))
+    pdu-is c b r f ∙ ap (λ (n : ℕ). answer n v) (sym (found-named _ m x))
 
 pub write-named : {A : Type 0} (c : Codec A) → Refuses c → {s t : List ℕ} {p q : Pen} {a : A} → p ≡ record { at = 0; refusal = 0 } → Writes c s p a q t → Named q.refusal
 unfolding ink

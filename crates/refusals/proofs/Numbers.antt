@@ -2,7 +2,7 @@
 use Prim.Native.Nat.{ℕ}
 use Rattle.std.proofs.Common.{◌≡◌, Option, Some, None, refl, sym, ap, ◌∙◌, arith}
 use Rattle.refusals.specs.declared.Refusal.{Refusal}
-use Rattle.refusals.specs.Refusals.{number, number_or_none, Named}
+use Rattle.refusals.specs.Refusals.{number, number_or_none, Found, Named}
 
 -- different refusals have different numbers
 pub number-alone : (r q : Refusal) → number r ≡ number q → r ≡ q
@@ -17,18 +17,17 @@ number_or_none-alone None (Some q) h = absurd (number-some q (sym h))
 number_or_none-alone (Some r) None h = absurd (number-some r h)
 number_or_none-alone (Some r) (Some q) h = ap Some (number-alone r q h)
 
--- what is looked up by a number is one, so `Refusal::of` has one result
-pub of-one : {n : ℕ} (x y : Option Refusal) → ((r : Refusal) → number r ≡ n → x ≡ Some r) → ((r : Refusal) → x ≡ Some r → number r ≡ n)
-    → ((r : Refusal) → number r ≡ n → y ≡ Some r) → ((r : Refusal) → y ≡ Some r → number r ≡ n) → x ≡ y
-of-one (Some r) y h k l m = sym (l r (k r refl))
-of-one None None h k l m = refl
-of-one None (Some q) h k l m = h q (m q refl)
+-- what is looked up by a number is one
+pub found-alone : {n : ℕ} (x y : Option Refusal) → Found n x → Found n y → x ≡ y
+found-alone (Some r) y f g = sym (g.known r (f.only r refl))
+found-alone None None f g = refl
+found-alone None (Some q) f g = f.known q (g.only q refl)
 
--- a number that is named has its refusal looked up
-pub found : {n : ℕ} {x : Option Refusal} → Named n → ((r : Refusal) → number r ≡ n → x ≡ Some r) → ((r : Refusal) → x ≡ Some r → number r ≡ n) → number_or_none x ≡ n
-found {n} {x} m known only = go m.who x m.is known only
+-- of a number that is named, it has that number
+pub found-named : {n : ℕ} (x : Option Refusal) → Named n → Found n x → number_or_none x ≡ n
+found-named {n} x m f = go m.who x m.is f
   where
-    go : (o x : Option Refusal) → number_or_none o ≡ n → ((r : Refusal) → number r ≡ n → x ≡ Some r) → ((r : Refusal) → x ≡ Some r → number r ≡ n) → number_or_none x ≡ n
-    go None None e known only = e
-    go None (Some r) e known only = absurd (number-some r (only r refl ∙ sym e))
-    go (Some r) x e known only = ap number_or_none (known r e) ∙ e
+    go : (o x : Option Refusal) → number_or_none o ≡ n → Found n x → number_or_none x ≡ n
+    go None None e f = e
+    go None (Some r) e f = absurd (number-some r (f.only r refl ∙ sym e))
+    go (Some r) x e f = ap number_or_none (f.known r e) ∙ e

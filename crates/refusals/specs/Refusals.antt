@@ -113,6 +113,11 @@ abbrev pub number_or_none : Option Refusal → ℕ
 number_or_none None = 0
 number_or_none (Some r) = number r
 
+-- the refusal that has the number n, where there is one
+pub record Found (n : ℕ) (found : Option Refusal) : Type 0 where
+  pub known : (r : Refusal) → number r ≡ n → found ≡ Some r
+  pub only : (r : Refusal) → found ≡ Some r → number r ≡ n
+
 -- a number that is 0, or a refusal's
 pub record Named (n : ℕ) : Type 0 where
   pub who : Option Refusal

@@ -1,8 +1,8 @@
 // Why a call refuses, each with the words of 01 ("Refusal numbers") or of the request that brought it, and its number. 0 is no refusal's.
 #![tactic(auto)]
 
-ghost use Rattle.std.specs.Prelude.{◌≡◌, Some};
-ghost use Rattle.refusals.specs.Refusals.{number};
+ghost use Rattle.std.specs.Prelude.{◌≡◌};
+ghost use Rattle.refusals.specs.Refusals.{number, Found};
 
 #[derive(Clone, Copy, PartialEq, Eq, Debug)]
 pub enum Refusal {
@@ -60,8 +60,7 @@ impl Refusal {
 
     // The refusal of a number, where there is one.
     pub fn of(n: u8) -> Option<Self>
-        ensures known { (r : Refusal) → number r ≡ n → result ≡ Some r }
-        ensures only { (r : Refusal) → result ≡ Some r → number r ≡ n }
+        ensures { Found n result }
     {
         match n {
             NOT_PERMITTED => Some(Self::NotPermitted),
