@@ -26,6 +26,21 @@ pub struct Read<T> {
     pub next: Cursor,
 }
 
+impl<T> Read<T> {
+    // The same reading, with another value made of what was read.
+    pub fn map<U, F: FnOnce(T) -> U>(self, f: F) -> Read<U>
+        requires { F.pre f self.value }
+        ensures value { F.post f self.value result.value }
+        ensures next { result.next ≡ self.next }
+    {
+        let next = self.next;
+        Read {
+            value: f(self.value),
+            next,
+        }
+    }
+}
+
 // A number with a sign.
 #[derive(Drop)]
 #[derive(Clone, Copy)]
@@ -279,5 +294,24 @@ impl Cursor {
             },
             None => self,
         }
+    }
+}
+
+#[cfg(test)]
+mod tests {
+    use super::*;
+
+    // A reading goes on after `map` where it stood, at its refusal too.
+    #[test]
+    fn map_keeps_the_place(rt: HostRuntime) {
+        let s = [0xA0u8];
+        let five = Cursor::start(&s).take(&s, 3).map(|v| v == 5);
+        assert!(rt; five.value);
+        assert_eq!(rt; five.next.at, 3);
+        assert_eq!(rt; five.next.refusal, 0);
+        let none = five.next.take(&s, 6).map(|v| (v, v == 0));
+        assert_eq!(rt; none.value, (0, true));
+        assert_eq!(rt; none.next.at, 3);
+        assert_eq!(rt; none.next.refusal, Refusal::CutShort.number());
     }
 }
